@@ -1,0 +1,23 @@
+// The two places where a key's distance is multiplied: a comparison of two products, and the quotient of one.
+// Their contracts speak of natural numbers, so that wider keys change this crate and nothing above it.
+ghost use mathlib.Core.Path.{_≡_};
+ghost use mathlib.Core.Bool.{Bool};
+ghost use Prim.Native.Nat.{_*_, _/_};
+ghost use lib.Dec.{leb};
+ghost use Rattle.products.specs.Products.{Comparable, Divisible};
+
+// Whether a * b is at most c * d.
+pub fn at_most(a: u64, b: u64, c: u64, d: u64) -> bool
+    requires { ⌜ Comparable a b c d ⌝ }
+    ensures { λ (r : Bool). ⌜ r ≡ leb (a * b) (c * d) ⌝ }
+{
+    a * b <= c * d
+}
+
+// far * rise / run, rounded down.
+pub fn quotient(far: u64, rise: u64, run: u64) -> u64
+    requires { ⌜ Divisible far rise run ⌝ }
+    ensures { λ r. ⌜ r ≡ far * rise / run ⌝ }
+{
+    far * rise / run
+}

@@ -1,0 +1,4 @@
+pub mod Limits
+pub mod Damages
+pub mod Laws
+pub mod Chosen

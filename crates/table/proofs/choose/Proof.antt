@@ -1,0 +1,29 @@
+use borrow.Author.Needs.{needs}
+use Rattle.table.specs.Chosen.{chosenOf}
+use mathlib.Core.Path.{_≡_}
+use Prim.Native.Nat.{_≤_}
+use Rattle.table.proofs.Laws.{walk-cases}
+use Rattle.table.proofs.choose.Statement.{statement}
+use Rattle.table.proofs.choose.Tie as tie
+
+abbrev Inv-loop : tie.InvT-loop
+Inv-loop table s key i₀ i = (i ≤ s) × (chosenOf table i key ≡ chosenOf table s key)
+
+abbrev μ-loop : tie.MeasureT-loop
+μ-loop table s key i₀ i = i
+
+pub choose-spec : {M : Type 1} → statement M
+choose-spec =
+    tie.close
+    (tie.spec
+    Inv-loop
+    μ-loop
+    (λ c. search (walk-cases, needs))  -- loop-holds
+    (λ c. search (walk-cases, needs))  -- sub-i
+    (λ c. search (walk-cases, needs))  -- mul-if1
+    (λ c. search (walk-cases, needs))  -- mul-if1-2
+    (λ c. search (walk-cases, needs))  -- shared-slice-read-if1
+    (λ c. search (walk-cases, needs))  -- returns
+    (λ c. search (walk-cases, needs))  -- loop-less
+    (λ c. search (walk-cases, needs))  -- loop-again
+    (λ c. search (walk-cases, needs)))
