@@ -76,7 +76,7 @@ module _ (e b n : ℕ) (keys table buffers : List ℕ) where
       (λ u. absurd (fault-not-good keys n at (record { small = small; above = λ h. absurd (omega (arith, ltb-false 0 p u)) })))))
       (λ t.
       subst Means (wrong-answer takes p (LargeKey (record { 0 = p })) at (wrong-large keys p refl t))
-      (record { lowest = lowest; large = ltb-false _ _ t }))
+      (record { lowest = lowest; large = omega (arith, ltb-false (getD keys p 0) keyLimit t) }))
 
   none-means : Takes e b n keys → faultOf keys n ≡ Nothing → Means built
   none-means takes none =
