@@ -1,14 +1,14 @@
--- The cases of a step and of a closed segment's run; a cone describes a segment, and one step of it decides the rule.
+-- The cases of a step; a cone describes a segment, and one step of it decides the rule.
 -- Assumes nothing.
 use mathlib.Core.Path.{_≡_, refl, sym, ap, _∙_}
 use mathlib.Core.Bool.{Bool, true, false}
 use mathlib.Core.List.{List}
 use Prim.Native.Nat.{ℕ, _+_, _-_, _*_, _≤_, _<_}
-use native.Mathlib.Nat.{add-zero, sub-self, add-sub-cancel}
+use native.Mathlib.Nat.{add-zero, sub-self}
 use native.Mathlib.Omega.{arith}
 use lib.ListN.{getD}
 use lib.Dec.{leb}
-use borrow.Author.Tests.{leb-true, le-leb, eq-eqb, ne-eqb}
+use borrow.Author.Tests.{leb-true, le-leb}
 use Rattle.lists.specs.Tests.{pick, both}
 use Rattle.lists.proofs.Tests.{both-true, true-both, same-test, either}
 use Rattle.products.specs.Products.{Comparable}
@@ -18,8 +18,8 @@ use Rattle.cone.specs.declared.Frac.{Frac}
 use Rattle.cone.specs.declared.Cone.{Cone}
 use Rattle.cone.specs.declared.Step.{Step}
 use Rattle.cone.specs.declared.Step.the-variants.{Joined, Apart}
-use Rattle.cone.specs.Rule.{far, Joins, joins, segmentOf}
-use Rattle.cone.specs.Step.{Ready, steeperOf, startOf, grown, lets, stepOf, runOf}
+use Rattle.cone.specs.Rule.{far, Joins, joins}
+use Rattle.cone.specs.Step.{Ready, steeperOf, startOf, grown, lets, stepOf}
 use Rattle.cone.proofs.Numbers.{wide, wide′, over, under}
 use Rattle.cone.proofs.Rules.{joins-true, true-joins}
 use Rattle.cone.proofs.Tops
@@ -35,16 +35,6 @@ module _ (f g : Frac) {r : Bool} (tested : r ≡ leb (g .top * f .bottom) (f .to
   steeper-second q = simp (sym tested ∙ q)
 
 pub ruleset steeper-cases = (steeper-first, steeper-second)
-
--- ---- the run of a closed segment
-
-pub run-one : (c : Cone) → c .count ≡ 1 → 1 ≡ runOf c
-run-one c q = simp (eq-eqb _ _ q)
-
-pub run-more : (c : Cone) → (c .count ≡ 1 → ⊥) → c .last .0 - c .origin .0 ≡ runOf c
-run-more c q = simp (ne-eqb _ _ q)
-
-pub ruleset run-cases = (run-one, run-more)
 
 -- ---- a step: what it multiplies fits, and what it answers
 
@@ -76,7 +66,7 @@ module _
         v ≡ true → {n : ℕ} → n ≡ c .count - e
         → {f s : Frac} → f ≡ steeperOf (c .flat) (record { top = key - c .origin .0; bottom = c .count + e })
         → s ≡ steeperOf (c .steep) (record { top = n; bottom = key - c .origin .0 })
-        → Joined (record { origin = c .origin; last = record { 0 = key }; count = c .count + 1; flat = f; steep = s }) ≡ stepOf e c key
+        → Joined (record { origin = c .origin; count = c .count + 1; flat = f; steep = s }) ≡ stepOf e c key
     unfolding stepOf
     joins-it q n-is f-is s-is = simp (sym below ∙ p, sym above ∙ q, f-is, s-is, n-is)
 
@@ -105,7 +95,6 @@ module _ (e : ℕ) (c : Cone) (key : ℕ) where
 pub record Describes (e : ℕ) (ks : List ℕ) (i : ℕ) (c : Cone) : Type 0 where
   pub origin : c .origin .0 ≡ getD ks i 0
   pub some : 0 < c .count
-  pub last : c .last .0 ≡ getD ks (i + (c .count - 1)) 0
   pub flat : Tops (c .flat) (far ks i) (λ (m : ℕ). m + e) (c .count)
   pub steep : Tops (c .steep) (λ (m : ℕ). m - e) (far ks i) (c .count)
 
@@ -118,7 +107,6 @@ started e ks i =
     record {
       origin = refl;
       some = omega arith;
-      last = simp add-zero;
       flat = Tops.none (far ks i) (λ (m : ℕ). m + e) (far-zero ks i);
       steep = Tops.none (λ (m : ℕ). m - e) (far ks i) (omega arith);
     }
@@ -169,17 +157,9 @@ module _ (e : ℕ) (ks : List ℕ) (i : ℕ) (c : Cone) (s : Describes e ks i c)
       record {
         origin = s .origin;
         some = omega arith;
-        last = simp add-sub-cancel;
         flat = rw away (Tops.more (c .flat) (far ks i) (λ (m : ℕ). m + e) (c .count) (s .flat) (omega (arith, s .some)));
         steep = rw away (Tops.more (c .steep) (λ (m : ℕ). m - e) (far ks i) (c .count) (s .steep) pos);
       }
-
--- the segment that a cone describes, once it is closed
-pub segment-is :
-    (e : ℕ) (ks : List ℕ) (i : ℕ) (c : Cone) → Describes e ks i c
-    → segmentOf ks i (c .count) ≡ record { first = c .origin .0; base = i; rise = c .count - 1; run = runOf c }
-unfolding segmentOf
-segment-is e ks i c s = simp (s .origin, s .last)
 
 -- ---- the numbers of a cone stay small
 

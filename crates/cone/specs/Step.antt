@@ -1,7 +1,7 @@
 -- One step of the cone, on natural numbers: two fractions stand for all the earlier keys. That it decides the rule is a law.
 use mathlib.Core.Bool.{Bool}
 use Prim.Native.Nat.{ℕ, _+_, _-_, _*_, _≤_, _<_}
-use lib.Dec.{leb, eqb}
+use lib.Dec.{leb}
 use Rattle.lists.specs.Tests.{pick, both}
 use Rattle.terms.specs.declared.Key.{Key}
 use Rattle.terms.specs.Limits.{keyLimit, eMost, nMost, keyOf}
@@ -21,25 +21,19 @@ pub record Ready (e : ℕ) (c : Cone) (key : Key) : Type 0 where
   pub steep-top : c .steep .top ≤ c .count
   pub steep-bottom : c .steep .bottom < keyLimit
 
--- what the entry of a closed segment asks
-pub record Closable (c : Cone) : Type 0 where
-  pub some : 0 < c .count
-  pub ordered : c .origin .0 ≤ c .last .0
-
 -- the larger of two fractions, the first where they are equal
 abbrev pub steeperOf : Frac → Frac → Frac
 steeperOf f g = pick (leb (g .top * f .bottom) (f .top * g .bottom)) f g
 
 abbrev pub startOf : ℕ → Cone
 startOf key =
-    record { origin = keyOf key; last = keyOf key; count = 1; flat = record { top = 0; bottom = 1 }; steep = record { top = 0; bottom = 1 } }
+    record { origin = keyOf key; count = 1; flat = record { top = 0; bottom = 1 }; steep = record { top = 0; bottom = 1 } }
 
 -- the cone with one key more
 abbrev pub grown : ℕ → Cone → ℕ → Cone
 grown e c key =
     record {
       origin = c .origin;
-      last = keyOf key;
       count = c .count + 1;
       flat = steeperOf (c .flat) (record { top = key - c .origin .0; bottom = c .count + e });
       steep = steeperOf (c .steep) (record { top = c .count - e; bottom = key - c .origin .0 });
@@ -53,7 +47,3 @@ lets c key =
 
 unfoldable pub stepOf : ℕ → Cone → ℕ → Step
 stepOf e c key = pick (lets c key) (Joined (grown e c key)) Apart
-
--- the run of a closed segment
-abbrev pub runOf : Cone → ℕ
-runOf c = pick (eqb (c .count) 1) 1 (c .last .0 - c .origin .0)

@@ -5,7 +5,7 @@ ghost use mathlib.Core.Bool.{Bool};
 ghost use Prim.Native.Nat.{_-_, _*_};
 ghost use lib.Dec.{leb};
 ghost use Rattle.products.specs.Products.{Comparable};
-ghost use Rattle.cone.specs.Step.{Ready, Closable, steeperOf, startOf, stepOf, runOf};
+ghost use Rattle.cone.specs.Step.{Ready, steeperOf, startOf, stepOf};
 
 // A fraction, whose bottom is not 0.
 pub struct Frac {
@@ -13,11 +13,10 @@ pub struct Frac {
     pub bottom: u64,
 }
 
-// A segment so far: its first and its last key, how many they are, and the two fractions that bound its line.
+// A segment so far: its first key, how many keys it has, and the two fractions that bound its line.
 // `flat` is the largest (key distance) / (position + e), and `steep` the largest (position - e) / (key distance).
 pub struct Cone {
     pub origin: Key,
-    pub last: Key,
     pub count: u64,
     pub flat: Frac,
     pub steep: Frac,
@@ -62,7 +61,6 @@ impl Cone {
     {
         Cone {
             origin: key,
-            last: key,
             count: 1,
             flat: Frac { top: 0, bottom: 1 },
             steep: Frac { top: 0, bottom: 1 },
@@ -93,7 +91,6 @@ impl Cone {
                 let s = steeper(steep, higher);
                 return Step::Joined(Cone {
                     origin,
-                    last: key,
                     count: count + 1,
                     flat: f,
                     steep: s,
@@ -101,23 +98,5 @@ impl Cone {
             }
         }
         Step::Apart
-    }
-
-    // How far the segment's line rises, and over how long a run of keys: one key rises 0 over 1.
-    pub fn rise(self) -> u64
-        requires { ⌜ Closable self ⌝ }
-        ensures { λ r. ⌜ r ≡ self .count - 1 ⌝ }
-    {
-        self.count - 1
-    }
-
-    pub fn run(self) -> u64
-        requires { ⌜ Closable self ⌝ }
-        ensures { λ r. ⌜ r ≡ runOf self ⌝ }
-    {
-        if self.count == 1 {
-            return 1;
-        }
-        self.last.0 - self.origin.0
     }
 }
