@@ -34,7 +34,7 @@ pub record Next (ks : List ℕ) (j : ℕ) (c : Cone) (key : ℕ) : Type 0 where
   pub small : key < keyLimit
   pub after : c .origin .0 < key
 
-pub open-start : (e : ℕ) (ks : List ℕ) (i : ℕ) {key : ℕ} → i < length ks → key ≡ getD ks i 0 → Open e ks i (i + 1) (startOf key)
+pub open-start : (e : ℕ) (ks : List ℕ) (i : ℕ) {key : ℕ} → i < length ks → key ≡ getD ks i 0 → Open e ks i (i + 1) (startOf e key)
 open-start e ks i {key} some is =
     record { inside = omega arith; counted = refl; describes = rw is (started e ks i); fit = fit-start e key }
 
@@ -66,8 +66,10 @@ module _ {e : ℕ} {ks : List ℕ} {i j : ℕ} {c : Cone} (w : Open e ks i j c) 
           few = omega (arith, w .counted, next .more);
           flat-top = w .fit .flat-top;
           flat-bottom = w .fit .flat-bottom;
+          flat-slack = w .fit .flat-slack;
           steep-top = w .fit .steep-top;
           steep-bottom = w .fit .steep-bottom;
+          steep-slack = w .fit .steep-slack;
         }
 
     -- the cone's test is the rule
@@ -79,7 +81,7 @@ module _ {e : ℕ} {ks : List ℕ} {i j : ℕ} {c : Cone} (w : Open e ks i j c) 
         record {
           inside = omega (arith, next .more);
           counted = omega (arith, w .counted);
-          describes = rw at (joined e ks i c (w .describes) rises);
+          describes = rw at (joined e ks i c (w .describes) (w .fit) rises);
           fit = fit-grown e c key (next .small) (w .fit);
         }
 
@@ -104,7 +106,7 @@ pub record Walk (e : ℕ) (ks : List ℕ) (n i j : ℕ) (c : Cone) : Type 0 wher
   pub closed : n ≤ i
   pub rest : (r : ℕ) → j + r ≡ length ks → drop n (cut e ks) ≡ cutFrom e ks i (c .count) r
 
-pub walk-start : (e : ℕ) (ks : List ℕ) {key : ℕ} → 0 < length ks → key ≡ getD ks 0 0 → Walk e ks 0 0 1 (startOf key)
+pub walk-start : (e : ℕ) (ks : List ℕ) {key : ℕ} → 0 < length ks → key ≡ getD ks 0 0 → Walk e ks 0 0 1 (startOf e key)
 walk-start e ks some is = record { segment = open-start e ks 0 some is; closed = omega arith; rest = λ r q. cut-start e ks r q }
 
 module _ {e : ℕ} {ks : List ℕ} {n i j : ℕ} {c : Cone} {key : ℕ} (w : Walk e ks n i j c) (next : Next ks j c key) where
@@ -121,7 +123,7 @@ module _ {e : ℕ} {ks : List ℕ} {n i j : ℕ} {c : Cone} {key : ℕ} (w : Wal
         rest = λ r p. w .rest (suc r) (omega arith) ∙ cut-joined e ks i (c .count) r (open-joins (w .segment) next is q) ∙ ap (λ (m : ℕ). cutFrom e ks i m r) (sym one);
       }
 
-  pub walk-apart : {s : Step} → s ≡ stepOf e c key → s ≡ Apart → Walk e ks (n + 1) j (j + 1) (startOf key)
+  pub walk-apart : {s : Step} → s ≡ stepOf e c key → s ≡ Apart → Walk e ks (n + 1) j (j + 1) (startOf e key)
   walk-apart is q =
       record {
         segment = open-start e ks j (next .more) (next .is);

@@ -14,15 +14,15 @@ unfoldable pub rowsOf : ℕ → List Segment → List ℕ
 rowsOf from [] = []
 rowsOf from (x ∷ xs) = rowOf from x ++ rowsOf from xs
 
--- what the numbers of a closed segment ask: it has keys, the last not below the first
-pub record Stretch (ks : List ℕ) (i end : ℕ) : Type 0 where
-  pub some : i < end
-  pub inside : end ≤ length ks
-  pub ordered : getD ks i 0 ≤ getD ks (end - 1) 0
+-- what the numbers of a closed segment of c keys ask: it has keys, the last not below the first
+pub record Stretch (ks : List ℕ) (i c : ℕ) : Type 0 where
+  pub some : 0 < c
+  pub inside : i + c ≤ length ks
+  pub ordered : getD ks i 0 ≤ getD ks (i + (c - 1)) 0
 
 -- and what writing them as row n asks
-pub record Room (ks : List ℕ) (i end from : ℕ) (table : List ℕ) (n : ℕ) : Type 0 where
-  pub stretch : Stretch ks i end
+pub record Room (ks : List ℕ) (i c from : ℕ) (table : List ℕ) (n : ℕ) : Type 0 where
+  pub stretch : Stretch ks i c
   pub place : from + i ≤ nMost
   pub held : 5 * n + 5 ≤ length table
 

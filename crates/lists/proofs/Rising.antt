@@ -93,3 +93,8 @@ neighbours-up lo hi (x ∷ xs) low small rise = (
     neighbours-up (suc x) hi xs (λ h. rise 0 (omega arith)) (λ i h. small (suc i) (omega arith)) (λ i h. rise (suc i) (omega arith)),
   ),
 )
+
+pub up-drop : (lo hi : ℕ) (xs : List ℕ) (n : ℕ) → Up lo hi xs → Up lo hi (drop n xs)
+up-drop lo hi xs zero u = u
+up-drop lo hi [] (suc n) u = tt
+up-drop lo hi (x ∷ xs) (suc n) u = lower lo (suc x) hi (drop n xs) (omega (arith, u .0)) (up-drop (suc x) hi xs n (u .1 .1))

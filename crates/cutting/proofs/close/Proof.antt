@@ -20,7 +20,6 @@ close-spec =
     (λ c. search (row-written, needs))  -- mul-table-3
     (λ c. simp length-set (omega arith))  -- slice-write-table-2
     (λ c. search (row-written, needs))  -- sub-table
-    (λ c. search (row-written, needs))  -- sub-table-2
     (λ c. search (row-written, needs))  -- add-table-3
     (λ c. search (row-written, needs))  -- mul-table-4
     (λ c. simp length-set (omega arith))  -- slice-write-table-3

@@ -19,7 +19,12 @@ count-segments-spec =
     Inv-loop
     μ-loop
     (λ c. search (count-cases, needs))  -- loop-holds
-    (λ c κs. search (count-cases, needs))  -- end-of-requires
+    (λ c. search (count-cases, needs))  -- mul-first-size
+    (λ c. search (count-cases, needs))  -- sub-first-size
+    (λ c. search (count-cases, needs))  -- part-first-size-start
+    (λ c. search (count-cases, needs))  -- part-first-size-end
+    (λ c κs. search (count-cases, needs))  -- first-size-requires
+    (λ c. search (count-cases, needs))  -- add-i
     (λ c. search (count-cases, needs))  -- add-n
     (λ c. search (count-cases, needs))  -- loop-less
     (λ c. search (count-cases, needs))  -- loop-again

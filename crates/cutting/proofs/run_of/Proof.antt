@@ -7,9 +7,9 @@ pub run-of-spec : {M : Type 1} → statement M
 run-of-spec =
     tie.close
     (tie.spec
-    (λ c. search (run-cases, needs))  -- sub-if1
     (λ c. search (run-cases, needs))  -- returns
     (λ c. search (run-cases, needs))  -- sub-result
+    (λ c. search (run-cases, needs))  -- add-result
     (λ c. search (run-cases, needs))  -- mul-result
     (λ c. search (run-cases, needs))  -- shared-slice-read-result
     (λ c. search (run-cases, needs))  -- mul-result-2

@@ -19,8 +19,13 @@ write-segments-spec =
     Inv-loop
     μ-loop
     (λ c. search (write-cases, needs))  -- loop-holds
-    (λ c κs. search (write-cases, needs))  -- end-of-requires
+    (λ c. search (write-cases, needs))  -- mul-first-size
+    (λ c. search (write-cases, needs))  -- sub-first-size
+    (λ c. search (write-cases, needs))  -- part-first-size-start
+    (λ c. search (write-cases, needs))  -- part-first-size-end
+    (λ c κs. search (write-cases, needs))  -- first-size-requires
     (λ c κs. search (write-cases, needs))  -- close-requires
+    (λ c. search (write-cases, needs))  -- add-i
     (λ c. search (write-cases, needs))  -- add-n
     (λ c. search (write-cases, needs))  -- loop-less
     (λ c. search (write-cases, needs))  -- loop-again
