@@ -18,22 +18,22 @@ line-at-spec =
     (tie.spec
     Inv-loop
     μ-loop
-    (λ c. search (line-cases, needs)) -- returns
-    (λ c. search (line-cases, needs)) -- loop-holds
-    (λ c. search (line-cases, needs)) -- shared-slice-read-symbol-of
-    (λ c κs. search (line-cases, needs)) -- symbol-of-requires
-    (λ c. search (line-cases, needs)) -- enum-told
-    (λ c. search (line-cases, needs)) -- returns-2
-    (λ c. search (line-cases, needs)) -- add-t15
-    (λ c. search (line-cases, needs)) -- returns-3
-    (λ c. search (line-cases, needs)) -- enum-told-2
-    (λ c. search (line-cases, needs)) -- returns-4
-    (λ c. search (line-cases, needs)) -- enum-known-y
-    (λ c. search (line-cases, needs)) -- returns-5
-    (λ c. search (line-cases, needs)) -- mul-v
-    (λ c. search (line-cases, needs)) -- add-v
-    (λ c. search (line-cases, needs)) -- add-n
-    (λ c. search (line-cases, needs)) -- add-p
-    (λ c. search (line-cases, needs)) -- loop-less
-    (λ c. search (line-cases, needs)) -- loop-again
+    (λ c. search (line-cases, needs))  -- returns
+    (λ c. search (line-cases, needs))  -- loop-holds
+    (λ c. search (line-cases, needs))  -- shared-slice-read-symbol-of
+    (λ c κs. search (line-cases, needs))  -- symbol-of-requires
+    (λ c. search (line-cases, needs))  -- enum-told
+    (λ c. search (line-cases, needs))  -- returns-2
+    (λ c. search (line-cases, needs))  -- add-t15
+    (λ c. search (line-cases, needs))  -- returns-3
+    (λ c. search (line-cases, needs))  -- enum-told-2
+    (λ c. search (line-cases, needs))  -- returns-4
+    (λ c. search (line-cases, needs))  -- enum-known-y
+    (λ c. search (line-cases, needs))  -- returns-5
+    (λ c. search (line-cases, needs))  -- mul-v
+    (λ c. search (line-cases, needs))  -- add-v
+    (λ c. search (line-cases, needs))  -- add-n
+    (λ c. search (line-cases, needs))  -- add-p
+    (λ c. search (line-cases, needs))  -- loop-less
+    (λ c. search (line-cases, needs))  -- loop-again
     (λ c. search (line-cases, needs)))

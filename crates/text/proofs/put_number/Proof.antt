@@ -16,15 +16,15 @@ put-number-spec =
     (tie.spec
     Inv-loop
     μ-loop
-    (λ c κs. search (put-cases, needs)) -- width-requires
-    (λ c. search (put-cases, needs)) -- loop-holds
-    (λ c. search (put-cases, needs)) -- sub-left
-    (λ c. search (put-cases, needs)) -- add-p
-    (λ c. search (put-cases, needs)) -- cast-out
-    (λ c. search (put-cases, needs)) -- add-out
-    (λ c. search (put-cases, needs)) -- slice-write-out
-    (λ c. search (put-cases, needs)) -- loop-less
-    (λ c. search (put-cases, needs)) -- loop-again
-    (λ c. search (put-cases, needs)) -- add-result
-    (λ c. search (put-cases, needs)) -- same-length
+    (λ c κs. search (put-cases, needs))  -- width-requires
+    (λ c. search (put-cases, needs))  -- loop-holds
+    (λ c. search (put-cases, needs))  -- sub-left
+    (λ c. search (put-cases, needs))  -- add-p
+    (λ c. search (put-cases, needs))  -- cast-out
+    (λ c. search (put-cases, needs))  -- add-out
+    (λ c. search (put-cases, needs))  -- slice-write-out
+    (λ c. search (put-cases, needs))  -- loop-less
+    (λ c. search (put-cases, needs))  -- loop-again
+    (λ c. search (put-cases, needs))  -- add-result
+    (λ c. search (put-cases, needs))  -- same-length
     (λ c. search (put-cases, needs)))

@@ -7,8 +7,8 @@ pub symbol-of-spec : {M : Type 1} → statement M
 symbol-of-spec =
     tie.close
     (tie.spec
-    (λ c. search (symbol-cases, needs)) -- returns
-    (λ c. search (symbol-cases, needs)) -- returns-2
-    (λ c. search (symbol-cases, needs)) -- returns-3
-    (λ c. search (symbol-cases, needs)) -- cast-t4
+    (λ c. search (symbol-cases, needs))  -- returns
+    (λ c. search (symbol-cases, needs))  -- returns-2
+    (λ c. search (symbol-cases, needs))  -- returns-3
+    (λ c. search (symbol-cases, needs))  -- cast-t4
     (λ c. search (symbol-cases, needs)))

@@ -16,8 +16,8 @@ width-spec =
     (tie.spec
     Inv-loop
     μ-loop
-    (λ c. search (width-cases, needs)) -- loop-holds
-    (λ c. search (width-cases, needs)) -- add-w
-    (λ c. search (width-cases, needs)) -- loop-less
-    (λ c. search (width-cases, needs)) -- loop-again
+    (λ c. search (width-cases, needs))  -- loop-holds
+    (λ c. search (width-cases, needs))  -- add-w
+    (λ c. search (width-cases, needs))  -- loop-less
+    (λ c. search (width-cases, needs))  -- loop-again
     (λ c. search (width-cases, needs)))
