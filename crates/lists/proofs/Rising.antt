@@ -82,3 +82,14 @@ rises-up lo hi (x ∷ xs) a r = (
     rises-up (suc x) hi xs (λ i h. (r 0 (suc i) (omega arith) (omega arith), a (suc i) (omega arith) .1)) (λ i j h l. r (suc i) (suc j) (omega arith) (omega arith)),
   ),
 )
+
+-- neighbours that rise, rise all the way
+pub neighbours-up : (lo hi : ℕ) (xs : List ℕ) → (0 < length xs → lo ≤ getD xs 0 0) → ((i : ℕ) → i < length xs → getD xs i 0 < hi) → ((i : ℕ) → suc i < length xs → getD xs i 0 < getD xs (suc i) 0) → Up lo hi xs
+neighbours-up lo hi [] low small rise = tt
+neighbours-up lo hi (x ∷ xs) low small rise = (
+  low (omega arith),
+  (
+    small 0 (omega arith),
+    neighbours-up (suc x) hi xs (λ h. rise 0 (omega arith)) (λ i h. small (suc i) (omega arith)) (λ i h. rise (suc i) (omega arith)),
+  ),
+)
