@@ -329,3 +329,15 @@ module _ (out : List ℕ) (s : ℕ) (table : List ℕ) (asked : Report out s tab
     report-written w₂ = after-written out 0 (countsOf n s e b) (cellsOf table 0 (5 * s)) w₁ (omega (arith, e₁)) w₂
 
 pub ruleset report-cases = (report-fits, report-first, report-second, report-past, report-written)
+
+-- ---- how long they are
+
+pub report-most : (n s e b : ℕ) (table : List ℕ) → length (reportOf n s e b table) ≤ 120 + 105 * s
+unfolding reportOf
+report-most n s e b table =
+    omega (arith, length-append (countsOf n s e b) (cellsOf table 0 (5 * s)), counts-most n s e b, cells-most table (5 * s) 0)
+
+pub refusal-most : (r : Refusal) → length (refusalOf r) ≤ 60
+unfolding refusalOf
+refusal-most r =
+    omega (arith, length-append (namedOf refusedWord (numberOf r)) (lastOf atWord (placeOf r)), named-most refusedWord (numberOf r) (omega arith), last-most atWord (placeOf r) (omega arith))
