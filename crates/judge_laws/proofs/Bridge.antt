@@ -1,15 +1,14 @@
 -- The tests of a segment are its rules.
 -- Assumes nothing.
-use mathlib.Core.Path.{_≡_, refl, sym, ap, _∙_}
-use mathlib.Core.Bool.{Bool, true, false, not}
+use mathlib.Core.Path.{_≡_, refl, ap, _∙_}
+use mathlib.Core.Bool.{true, not}
 use mathlib.Core.List.{List}
-use Prim.Native.Nat.{ℕ, _+_, _-_, _*_, _≤_, _<_}
+use Prim.Native.Nat.{ℕ, _+_, _-_, _*_, _<_}
 use native.Mathlib.Omega.{arith}
 use lib.Dec.{ltb}
-use lib.ListN.{length, getD, take, drop, length-take, length-drop}
+use lib.ListN.{length, getD, drop, length-take, length-drop}
 use lib.Seq.{getD-take, getD-drop}
 use borrow.Author.Tests.{lt-ltb, ltb-true, eqb-true, eq-eqb, not-true}
-use Rattle.lists.specs.Tests.{both, imp}
 use Rattle.lists.proofs.Tests.{either, both-true, true-both, imp-true, true-imp}
 use Rattle.terms.specs.Limits.{keyOf}
 use Rattle.table.specs.Store.{Store}
@@ -18,7 +17,7 @@ use Rattle.table.specs.Entries.{entryOf, entryIn, runIn, usedIn}
 use Rattle.table.specs.Damaged.{Sound}
 use Rattle.table.proofs.Damages.{damaged-false, false-damaged}
 use Rattle.line.specs.Meaning.{Near}
-use Rattle.judge.specs.declared.Bound.the-variants.{Free, By}
+use Rattle.judge.specs.declared.Bound.the-variants.{Free}
 use Rattle.judge.specs.Rules.{Rules}
 use Rattle.judge.specs.Check.{ceilingOf, rulesOf}
 use Rattle.judge_laws.proofs.Kept.{Under, Kept, kept-true, true-kept}

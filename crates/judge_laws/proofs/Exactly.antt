@@ -1,25 +1,20 @@
 -- Demand 3d: a table within limits that keeps the other rules and whose lines, worked exactly, miss no read in a run by more than e is accepted,
 -- however it was cut.
 -- Assumes nothing.
-use mathlib.Core.Path.{_≡_, refl, sym, ap, _∙_}
+use mathlib.Core.Path.{_≡_, ap, _∙_}
 use Prim.Native.Nat.{ℕ, zero, suc, _+_, _-_, _≤_, _<_}
 use native.Mathlib.Nat.{add-zero}
 use native.Mathlib.Omega.{arith}
-use lib.Dec.{ltb}
-use lib.ListN.{length, getD}
-use borrow.Author.Tests.{ltb-true, ltb-false}
-use Rattle.lists.specs.Rising.{Up}
-use Rattle.lists.proofs.Tests.{either}
+use lib.ListN.{getD}
 use Rattle.lists.proofs.Rising.{up-rises}
 use Rattle.lists.proofs.Merging.{Split, merged-split}
 use Rattle.terms.specs.Limits.{keyLimit, keyOf}
 use Rattle.table.specs.Store.{Store}
 use Rattle.table.specs.Limits.{Limits}
 use Rattle.table.specs.Entries.{entryIn, runIn, usedIn}
-use Rattle.line.specs.Meaning.{Near}
 use Rattle.line.proofs.Exact.{exact-near}
 use Rattle.judge.specs.declared.Checked.the-variants.{Good}
-use Rattle.judge.specs.Rules.{Rules, Accepted}
+use Rattle.judge.specs.Rules.{Rules}
 use Rattle.judge.specs.Check.{checkOf}
 use Rattle.judge_laws.specs.Exactly.{OtherRules, Exactly}
 use Rattle.judge_laws.proofs.Bridge.{run-length, run-at}

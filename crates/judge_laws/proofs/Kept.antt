@@ -1,20 +1,20 @@
 -- The walk over a segment's merged order tests what the rules say of its keys.
 -- Assumes nothing.
-use mathlib.Core.Path.{_≡_, refl, sym, ap, _∙_}
-use mathlib.Core.Bool.{Bool, true, false}
+use mathlib.Core.Path.{_≡_, refl, sym, _∙_}
+use mathlib.Core.Bool.{true}
 use mathlib.Core.List.{List, [], _∷_}
-use mathlib.Core.Logic.{_⊎_, inl, inr, ⊎-elim}
+use mathlib.Core.Logic.{inl, inr, ⊎-elim}
 use Prim.Native.Nat.{ℕ, zero, suc, _+_, _≤_, _<_}
 use native.Mathlib.Nat.{add-zero, not-suc-le-zero}
 use native.Mathlib.Omega.{arith}
-use lib.Dec.{ltb, leb}
+use lib.Dec.{leb}
 use lib.ListN.{length, getD}
 use borrow.Author.Tests.{lt-ltb, ltb-true, leb-true, leb-false, le-leb}
-use Rattle.lists.specs.Tests.{both, imp}
 use Rattle.lists.specs.Rising.{Up, In}
 use Rattle.lists.specs.Merge.{merge}
-use Rattle.lists.proofs.Tests.{either, clash, both-true, true-both, imp-true, true-imp}
-use Rattle.lists.proofs.Merging.{merge-none, merge-nil, merge-le, merge-gt}
+use Rattle.lists.proofs.Tests.{either, both-true, true-both, imp-true, true-imp}
+use Rattle.lists.proofs.Lists.{nil-cons, same-head}
+use Rattle.lists.proofs.Merging.{merge-nil, merge-first, merge-second}
 use Rattle.terms.specs.Limits.{keyLimit, keyOf}
 use Rattle.terms.specs.declared.Entry.{Entry}
 use Rattle.line.specs.Line.{windowOf}
@@ -161,54 +161,42 @@ module _ (e : ℕ) (x : Entry) (i : ℕ) (next : Bound) where
         )
 
   -- where the test passes each key, and the reverse
-  module _ (before : Bound) (p k : ℕ) (ks ys : List ℕ) (least : (y : ℕ) (zs : List ℕ) → ys ≡ y ∷ zs → k ≤ y) (front : merge (k ∷ ks) ys ≡ k ∷ merge ks ys) where
+  module _ (before : Bound) (p k : ℕ) (ks ys : List ℕ) (least : (y : ℕ) (zs : List ℕ) → ys ≡ y ∷ zs → k ≤ y) where
     run-step : (keptOf e x i next (By k) (p + 1) ks ys ≡ true → Kept e x i next (By k) (p + 1) ks ys) → keptOf e x i next before p (k ∷ ks) ys ≡ true → Kept e x i next before p (k ∷ ks) ys
     run-step rest h =
         let t : _ = both-true _ _ (sym (kept-run e x i next before p k ks ys least) ∙ h) in
-        run-cons before p k ks ys front (run-true next before k e x p (t .0)) (rest (t .1))
+        run-cons before p k ks ys (merge-first k ks ys least) (run-true next before k e x p (t .0)) (rest (t .1))
 
     step-run : (Kept e x i next (By k) (p + 1) ks ys → keptOf e x i next (By k) (p + 1) ks ys ≡ true) → Kept e x i next before p (k ∷ ks) ys → keptOf e x i next before p (k ∷ ks) ys ≡ true
     step-run rest w =
-        let t : _ = cons-run before p k ks ys front w in
+        let t : _ = cons-run before p k ks ys (merge-first k ks ys least) w in
         kept-run e x i next before p k ks ys least ∙ true-both _ _ (true-run next before k e x p (t .0 .0) (t .0 .1)) (rest (t .1))
 
-  module _ (before : Bound) (p y : ℕ) (ks ys : List ℕ) (least : (k : ℕ) (zs : List ℕ) → ks ≡ k ∷ zs → y < k) (front : merge ks (y ∷ ys) ≡ y ∷ merge ks ys) where
+  module _ (before : Bound) (p y : ℕ) (ks ys : List ℕ) (least : (k : ℕ) (zs : List ℕ) → ks ≡ k ∷ zs → y < k) where
     used-step : (keptOf e x i next (By y) p ks ys ≡ true → Kept e x i next (By y) p ks ys) → keptOf e x i next before p ks (y ∷ ys) ≡ true → Kept e x i next before p ks (y ∷ ys)
     used-step rest h =
         let t : _ = both-true _ _ (sym (kept-used e x i next before p y ks ys least) ∙ h) in
-        used-cons before p y ks ys front (used-true next before y x i (t .0)) (rest (t .1))
+        used-cons before p y ks ys (merge-second y ks ys least) (used-true next before y x i (t .0)) (rest (t .1))
 
     step-used : (Kept e x i next (By y) p ks ys → keptOf e x i next (By y) p ks ys ≡ true) → Kept e x i next before p ks (y ∷ ys) → keptOf e x i next before p ks (y ∷ ys) ≡ true
     step-used rest w =
-        let t : _ = cons-used before p y ks ys front w in
+        let t : _ = cons-used before p y ks ys (merge-second y ks ys least) w in
         kept-used e x i next before p y ks ys least ∙ true-both _ _ (true-used next before y x i (t .0 .0) (t .0 .1)) (rest (t .1))
-
-  no-head : {C : Type 0} (y : ℕ) (ys : List ℕ) → [] ≡ y ∷ ys → C
-  no-head y ys q = absurd (let z : _≡_ {A = ℕ} 0 (suc (length ys)) = ap length q in omega arith)
-
-  same-head : (a b : ℕ) (ks ys : List ℕ) → a ∷ ks ≡ b ∷ ys → a ≡ b
-  same-head a b ks ys q = ap (λ (l : List ℕ). getD l 0 0) q
-
-  alone-run : (k : ℕ) (ks : List ℕ) → merge (k ∷ ks) [] ≡ k ∷ merge ks []
-  alone-run k ks = merge-none (k ∷ ks) ∙ ap (λ (l : List ℕ). k ∷ l) (sym (merge-none ks))
-
-  alone-used : (y : ℕ) (ys : List ℕ) → merge [] (y ∷ ys) ≡ y ∷ merge [] ys
-  alone-used y ys = merge-nil (y ∷ ys) ∙ ap (λ (l : List ℕ). y ∷ l) (sym (merge-nil ys))
 
   pub kept-true : (before : Bound) (p : ℕ) (ks ys : List ℕ) → keptOf e x i next before p ks ys ≡ true → Kept e x i next before p ks ys
   kept-true before p [] [] h = record { rising = rw (merge-nil []) tt; run-under = λ k j. absurd j; used-under = λ k j. absurd j; not-before = λ z k j. absurd j; windows = λ q l. absurd (not-suc-le-zero l) }
-  kept-true before p [] (y ∷ ys) h = used-step before p y [] ys (λ k zs q. no-head k zs q) (alone-used y ys) (kept-true (By y) p [] ys) h
-  kept-true before p (k ∷ ks) [] h = run-step before p k ks [] (λ y zs q. no-head y zs q) (alone-run k ks) (kept-true (By k) (p + 1) ks []) h
+  kept-true before p [] (y ∷ ys) h = used-step before p y [] ys (λ k zs q. nil-cons k zs q) (kept-true (By y) p [] ys) h
+  kept-true before p (k ∷ ks) [] h = run-step before p k ks [] (λ y zs q. nil-cons y zs q) (kept-true (By k) (p + 1) ks []) h
   kept-true before p (k ∷ ks) (y ∷ ys) h =
       either (leb k y)
-      (λ t. run-step before p k ks (y ∷ ys) (λ z zs q. omega (arith, leb-true k y t, same-head y z ys zs q)) (merge-le k ks y ys (leb-true k y t)) (kept-true (By k) (p + 1) ks (y ∷ ys)) h)
-      (λ t. used-step before p y (k ∷ ks) ys (λ z zs q. omega (arith, leb-false k y t, same-head k z ks zs q)) (merge-gt k ks y ys (leb-false k y t)) (kept-true (By y) p (k ∷ ks) ys) h)
+      (λ t. run-step before p k ks (y ∷ ys) (λ z zs q. omega (arith, leb-true k y t, same-head y z ys zs q)) (kept-true (By k) (p + 1) ks (y ∷ ys)) h)
+      (λ t. used-step before p y (k ∷ ks) ys (λ z zs q. omega (arith, leb-false k y t, same-head k z ks zs q)) (kept-true (By y) p (k ∷ ks) ys) h)
 
   pub true-kept : (before : Bound) (p : ℕ) (ks ys : List ℕ) → Kept e x i next before p ks ys → keptOf e x i next before p ks ys ≡ true
   true-kept before p [] [] w = sym (kept-none e x i next before p)
-  true-kept before p [] (y ∷ ys) w = step-used before p y [] ys (λ k zs q. no-head k zs q) (alone-used y ys) (true-kept (By y) p [] ys) w
-  true-kept before p (k ∷ ks) [] w = step-run before p k ks [] (λ y zs q. no-head y zs q) (alone-run k ks) (true-kept (By k) (p + 1) ks []) w
+  true-kept before p [] (y ∷ ys) w = step-used before p y [] ys (λ k zs q. nil-cons k zs q) (true-kept (By y) p [] ys) w
+  true-kept before p (k ∷ ks) [] w = step-run before p k ks [] (λ y zs q. nil-cons y zs q) (true-kept (By k) (p + 1) ks []) w
   true-kept before p (k ∷ ks) (y ∷ ys) w =
       either (leb k y)
-      (λ t. step-run before p k ks (y ∷ ys) (λ z zs q. omega (arith, leb-true k y t, same-head y z ys zs q)) (merge-le k ks y ys (leb-true k y t)) (true-kept (By k) (p + 1) ks (y ∷ ys)) w)
-      (λ t. step-used before p y (k ∷ ks) ys (λ z zs q. omega (arith, leb-false k y t, same-head k z ks zs q)) (merge-gt k ks y ys (leb-false k y t)) (true-kept (By y) p (k ∷ ks) ys) w)
+      (λ t. step-run before p k ks (y ∷ ys) (λ z zs q. omega (arith, leb-true k y t, same-head y z ys zs q)) (true-kept (By k) (p + 1) ks (y ∷ ys)) w)
+      (λ t. step-used before p y (k ∷ ks) ys (λ z zs q. omega (arith, leb-false k y t, same-head k z ks zs q)) (true-kept (By y) p (k ∷ ks) ys) w)

@@ -1,10 +1,9 @@
 -- Demand 3a: the check says yes exactly when every store rule of 01 holds, 1 exactly when the limits fail, and 9 at the lowest segment that breaks a rule.
 -- Assumes nothing.
-use mathlib.Core.Path.{_≡_, refl, sym, ap, _∙_}
-use mathlib.Core.Bool.{Bool, true, false}
-use Prim.Native.Nat.{ℕ, _+_, _≤_, _<_}
+use mathlib.Core.Path.{_≡_, sym, ap, _∙_}
+use mathlib.Core.Bool.{false}
+use Prim.Native.Nat.{ℕ, _+_}
 use native.Mathlib.Omega.{arith}
-use Rattle.lists.specs.Tests.{pick}
 use Rattle.lists.proofs.Tests.{either, clash, is-true}
 use Rattle.terms.specs.declared.Refusal.the-variants.{Limits as OutOfLimits, StoreWrong}
 use Rattle.table.specs.Store.{Store}
@@ -13,7 +12,7 @@ use Rattle.table.proofs.Limits.{limited-true, true-limited}
 use Rattle.scan.specs.declared.Found.{Found}
 use Rattle.scan.specs.declared.Found.the-variants.{At, Nothing}
 use Rattle.scan.specs.Scan.{failsOf}
-use Rattle.scan.specs.Meaning.{Lowest, Scanned}
+use Rattle.scan.specs.Meaning.{Scanned}
 use Rattle.scan.proofs.Meaning.{fails-scanned, one-answer}
 use Rattle.judge.specs.declared.Checked.{Checked}
 use Rattle.judge.specs.declared.Checked.the-variants.{Good, Refused}

@@ -1,10 +1,9 @@
 -- The check on the store that 01 prints, and on the same store with one number changed.
 -- Assumes nothing.
 use mathlib.Core.Path.{_≡_, refl}
-use mathlib.Core.List.{List, [], _∷_}
+use mathlib.Core.List.{[], _∷_}
 use Prim.Native.Nat.{ℕ}
 use Rattle.lists.specs.Tests.{all, any}
-use Rattle.lists.specs.Merge.{merge}
 use Rattle.terms.specs.declared.Refusal.the-variants.{StoreWrong}
 use Rattle.table.specs.Store.{Store, storeOf}
 use Rattle.table.specs.Limits.{limitedOf}
