@@ -93,3 +93,21 @@ neighbours-up lo hi (x ∷ xs) low small rise = (
     neighbours-up (suc x) hi xs (λ h. rise 0 (omega arith)) (λ i h. small (suc i) (omega arith)) (λ i h. rise (suc i) (omega arith)),
   ),
 )
+
+-- ---- where it is, and its bounds by what is in it
+
+pub record Place (k : ℕ) (xs : List ℕ) : Type 0 where
+  pub place : ℕ
+  pub inside : place < length xs
+  pub is : getD xs place 0 ≡ k
+
+pub in-place : (k : ℕ) (xs : List ℕ) → In k xs → Place k xs
+in-place k [] i = absurd i
+in-place k (x ∷ xs) i =
+    ⊎-elim (λ e. record { place = 0; inside = omega arith; is = e })
+    (λ j. let w : Place k xs = in-place k xs j in record { place = suc (w .place); inside = omega (arith, w .inside); is = w .is }) i
+
+pub up-within : (lo hi lo′ hi′ : ℕ) (xs : List ℕ) → Up lo hi xs → ((k : ℕ) → In k xs → lo′ ≤ k) → ((k : ℕ) → In k xs → k < hi′) → Up lo′ hi′ xs
+up-within lo hi lo′ hi′ [] u a b = tt
+up-within lo hi lo′ hi′ (x ∷ xs) u a b =
+    (a x (inl refl), (b x (inl refl), up-within (suc x) hi (suc x) hi′ xs (u .1 .1) (λ k i. in-up (suc x) hi k xs (u .1 .1) i) (λ k i. b k (inr i))))
