@@ -17,7 +17,7 @@ use Rattle.build.specs.declared.Built.the-variants.{Made, Refused}
 use Rattle.build.specs.Build.{builtOf, tableBy}
 use Rattle.build_laws.specs.Builds.{Accepted}
 use Rattle.build_laws.specs.Leaves.{Entered, nowhere, Leaves}
-use Rattle.build_laws.proofs.Meaning.{answers}
+use Rattle.build_laws.proofs.Meaning.{answers, made-accepted}
 
 -- "no lent slice differs from before the call": the table is the only slice that build is lent to write
 pub refusal-keeps : (r : Refusal) (e n : ℕ) (keys table : List ℕ) → tableBy (Refused r) e n keys table ≡ table
@@ -65,6 +65,6 @@ pub made-leaves :
     → Leaves (cut e (take n keys)) table (tableBy (Made s) e n keys table)
 unfolding after
 made-leaves e b n keys table buffers {s} is =
-    let w : Accepted e b n keys table buffers s = rw is at (answers e b n keys table buffers) in
+    let w : Accepted e b n keys table buffers s = made-accepted e b n keys table buffers s (rw is at (answers e b n keys table buffers)) in
     let h : Holds b s table buffers = room-holds b s table buffers (omega (arith, w .sound .takes .sized .b-least)) (w .room) in
     rw (w .counts) (rows-leave (cut e (take n keys)) table (omega (arith, h .table-holds, w .counts)))

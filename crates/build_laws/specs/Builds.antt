@@ -5,8 +5,7 @@ use mathlib.Core.List.{List}
 use Prim.Native.Nat.{ℕ, _-_, _≤_, _<_}
 use lib.ListN.{length, getD, take}
 use Rattle.terms.specs.Limits.{keyLimit}
-use Rattle.terms.specs.declared.Refusal.{Refusal}
-use Rattle.terms.specs.declared.Refusal.the-variants.{Limits, LargeKey, NotRising, Backwards, Present, KeyRoom, SegmentRoom, OutRoom, StoreWrong, Malformed, BadLine}
+use Rattle.terms.specs.declared.Refusal.the-variants.{Limits, LargeKey, NotRising, SegmentRoom}
 use Rattle.table.specs.Limits.{segmentRoom}
 use Rattle.cone.specs.Rule.{cut}
 use Rattle.build.specs.declared.Built.{Built}
@@ -47,20 +46,11 @@ pub record Accepted (e b n : ℕ) (keys table buffers : List ℕ) (s : ℕ) : Ty
   pub counts : s ≡ length (cut e (take n keys))
   pub room : s ≤ segmentRoom b table buffers
 
--- 1: "e, B, n or s outside its limits, or n .. above the slice's length (build has no s yet)"; build gives no other refusal
-abbrev pub Refuses : ℕ → ℕ → ℕ → List ℕ → List ℕ → List ℕ → Refusal → Type 0
-Refuses e b n keys table buffers Limits = Takes e b n keys → ⊥
-Refuses e b n keys table buffers (LargeKey p) = Large e b n keys (p .0)
-Refuses e b n keys table buffers (NotRising p) = Falls e b n keys (p .0)
-Refuses e b n keys table buffers Backwards = ⊥
-Refuses e b n keys table buffers Present = ⊥
-Refuses e b n keys table buffers KeyRoom = ⊥
-Refuses e b n keys table buffers SegmentRoom = Cramped e b n keys table buffers
-Refuses e b n keys table buffers OutRoom = ⊥
-Refuses e b n keys table buffers (StoreWrong i) = ⊥
-Refuses e b n keys table buffers (Malformed at) = ⊥
-Refuses e b n keys table buffers (BadLine l) = ⊥
-
-abbrev pub Builds : ℕ → ℕ → ℕ → List ℕ → List ℕ → List ℕ → Built → Type 0
-Builds e b n keys table buffers (Made s) = Accepted e b n keys table buffers s
-Builds e b n keys table buffers (Refused r) = Refuses e b n keys table buffers r
+-- the answers, and the refusals in 01's order: 1, "e, B, n or s outside its limits, or n .. above the slice's length (build has no s yet)"; then 2 or
+-- 3 at the lowest faulty position; 7
+pub data Builds (e b n : ℕ) (keys table buffers : List ℕ) : Built → Type 0 where
+  made : {s : ℕ} → Accepted e b n keys table buffers s → Builds e b n keys table buffers (Made s)
+  refused-1 : (Takes e b n keys → ⊥) → Builds e b n keys table buffers (Refused Limits)
+  refused-2 : {p : ℕ} → Large e b n keys p → Builds e b n keys table buffers (Refused (LargeKey (record { 0 = p })))
+  refused-3 : {p : ℕ} → Falls e b n keys p → Builds e b n keys table buffers (Refused (NotRising (record { 0 = p })))
+  refused-7 : Cramped e b n keys table buffers → Builds e b n keys table buffers (Refused SegmentRoom)
