@@ -2,3 +2,4 @@ pub mod Tests
 pub mod Lists
 pub mod Rising
 pub mod Merging
+pub mod Over

@@ -7,7 +7,7 @@ use native.Mathlib.Nat.{add-zero, le-of-suc-le-suc, not-suc-le-zero, sub-zero, z
 use native.Mathlib.Omega.{arith}
 use mathlib.Core.List.{List, [], _∷_, _++_, append-nil}
 use lib.ListN.{length, take, drop, getD, set, length-drop}
-use lib.Seq.{drop-cons, take-nil, getD-append-add, getD-drop, take-all, drop-drop, drop-length}
+use lib.Seq.{drop-cons, take-nil, getD-append-add, getD-drop, take-all, drop-drop, drop-at, drop-length}
 use borrow.Rule.Slice.PartMut.{putMid}
 
 module _ {ℓ} {A : Type ℓ} where
@@ -34,6 +34,10 @@ module _ {ℓ} {A : Type ℓ} where
 
   pub drop-next : (l : List A) (i : ℕ) (x : A) (xs : List A) → drop i l ≡ x ∷ xs → drop (i + 1) l ≡ xs
   drop-next l i x xs e = sym (drop-drop 1 i l) ∙ ap (drop 1) e
+
+  -- what follows a front that is w long
+  pub drop-past : (l p rest : List A) (i w : ℕ) → drop i l ≡ p ++ rest → length p ≡ w → drop (i + w) l ≡ rest
+  drop-past l p rest i w e h = sym (drop-drop w i l) ∙ ap (drop w) e ∙ drop-at p rest w h
 
   pub drop-take : (p h : ℕ) (l : List A) → drop p (take h l) ≡ take (h - p) (drop p l)
   drop-take zero h l = rw sub-zero

@@ -1,3 +1,4 @@
 pub mod Tests
 pub mod Rising
 pub mod Merge
+pub mod Over

@@ -1,0 +1,5 @@
+pub mod Records
+pub mod Images
+pub mod Accepted
+pub mod First
+pub mod Filled

@@ -1,0 +1,4 @@
+pub mod Records
+pub mod Images
+pub mod First
+pub mod Stores
