@@ -1,19 +1,17 @@
 -- What the filling pass leaves is what `filledOf` says of the image that the bytes are; and the judging pass gives what it asks.
 -- Assumes nothing.
-use mathlib.Core.Path.{_≡_, refl, sym, ap, _∙_}
-use mathlib.Core.Bool.{true, false}
+use mathlib.Core.Path.{_≡_, refl, ap, _∙_}
 use mathlib.Core.List.{List, [], _∷_, _++_}
 use Prim.Native.Nat.{ℕ, zero, suc, _+_, _*_, _≤_, _<_}
 use native.Mathlib.Omega.{arith}
 use lib.Dec.{ltb}
-use lib.ListN.{length, getD}
+use lib.ListN.{length}
 use borrow.Author.Tests.{ltb-true}
 use Rattle.lists.proofs.Tests.{all-each, either}
-use Rattle.little.specs.Little.{getAt}
-use Rattle.records.specs.Records.{total, fieldsAt, recordAt, standsAt, manyAt, kindOf, size}
-use Rattle.records.specs.Images.{layoutOf, Part, heldAt, segmentAt, partOf, partsOf, partAt, afterPart, partsAt}
+use Rattle.records.specs.Records.{total, fieldsAt, recordAt, standsAt, kindOf}
+use Rattle.records.specs.Images.{layoutOf, heldAt, segmentAt, partOf, partsOf, partAt, afterPart, partsAt}
 use Rattle.records.specs.First.{first}
-use Rattle.records.specs.declared.Walked.the-variants.{Past, Fault}
+use Rattle.records.specs.declared.Walked.the-variants.{Past}
 use Rattle.records.proofs.Records.{no-fault}
 use Rattle.records.proofs.Images.{then-past, part-after}
 use Rattle.records.proofs.First.{first-proper}

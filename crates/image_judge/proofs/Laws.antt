@@ -1,17 +1,16 @@
 -- The cases of the judging functions.
 -- Assumes nothing.
-use mathlib.Core.Path.{_≡_, refl, sym, ap, _∙_}
+use mathlib.Core.Path.{_≡_, sym, ap, _∙_}
 use mathlib.Core.Bool.{Bool, true, false}
-use mathlib.Core.List.{List, [], _∷_}
-use Prim.Native.Nat.{ℕ, zero, suc, _+_, _-_, _*_, _^_, _≤_, _<_}
+use mathlib.Core.List.{List}
+use Prim.Native.Nat.{ℕ, suc, _+_, _-_, _*_, _^_, _≤_, _<_}
 use native.Mathlib.Omega.{arith}
 use lib.ListN.{length, getD}
-use lib.Dec.{leb, ltb, lit<, lit≤}
+use lib.Dec.{lit<, lit≤}
 use mir.Syntax.{w64}
 use mir.Val.{Fits}
 use borrow.Author.Tests.{le-leb, lt-leb, lt-ltb, le-ltb}
 use Rattle.lists.specs.Tests.{all}
-use Rattle.lists.proofs.Tests.{all-each, either}
 use Rattle.table.specs.Limits.{countedOf}
 use Rattle.terms.specs.declared.Refusal.the-variants.{Limits, Malformed}
 use Rattle.little.specs.Little.{getAt}
@@ -19,14 +18,14 @@ use Rattle.records.specs.declared.Kind.{Kind}
 use Rattle.records.specs.declared.Layout.{Layout}
 use Rattle.records.specs.declared.Walked.{Walked}
 use Rattle.records.specs.declared.Walked.the-variants.{Past, Fault}
-use Rattle.records.specs.Records.{total, standsAt, walkOf, andThen, Stands}
+use Rattle.records.specs.Records.{total, standsAt, walkOf, Stands}
 use Rattle.records.specs.Images.{heldAt, segmentAt, partOf, partsOf, endOf, restOf, layoutOf}
 use Rattle.records.specs.First.{first}
-use Rattle.records.proofs.Records.{no-fault, stands-of, stands-true, stands-yes, stands-no}
+use Rattle.records.proofs.Records.{stands-of, stands-yes, stands-no}
 use Rattle.records.proofs.Inside.{walk-inside, part-inside, parts-inside}
 use Rattle.image_judge.specs.Judging.{Ready, Readable, Laid, Held, Two, afterKeysOf, answerOf, headedOf, judgedOf}
 use Rattle.image_judge.specs.declared.Judged.{Judged}
-use Rattle.image_judge.specs.declared.Judged.the-variants.{Well, Refused}
+use Rattle.image_judge.specs.declared.Judged.the-variants.{Refused}
 
 -- ---- walk
 module _ (k : Kind) (l : List ℕ) (at count p left : ℕ) (so-far : walkOf k l left p ≡ walkOf k l count at) where

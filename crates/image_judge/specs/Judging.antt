@@ -1,12 +1,7 @@
 -- 01, "Reading: 10 (head), 1, 10 (rest), ..": what the judging pass answers on every byte string; and what its steps ask.
-use mathlib.Core.Path.{_≡_, sym, _∙_}
-use mathlib.Core.Bool.{Bool, true, false}
-use mathlib.Core.List.{List, [], _∷_}
+use mathlib.Core.List.{List}
 use Prim.Native.Nat.{ℕ, _+_, _≤_, _<_}
-use native.Mathlib.Omega.{arith}
-use lib.Dec.{leb}
 use lib.ListN.{length}
-use borrow.Author.Tests.{leb-true, le-leb}
 use Rattle.lists.specs.Tests.{pick}
 use Rattle.table.specs.Limits.{countedOf}
 use Rattle.terms.specs.declared.Refusal.the-variants.{Limits, Malformed}

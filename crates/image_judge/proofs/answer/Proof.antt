@@ -1,14 +1,6 @@
-use mathlib.Core.Path.{_≡_}
-use mathlib.Core.List.{List}
-use mathlib.Core.Logic.{⊎-elim}
-use Prim.Native.Nat.{ℕ, _+_, _*_, _-_, _≤_, _<_}
-use native.Mathlib.Omega.{arith}
-use lib.ListN.{length, getD, set, length-set}
 use borrow.Author.Needs.{needs}
 use Rattle.image_judge.proofs.answer.Statement.{statement}
 use Rattle.image_judge.proofs.answer.Tie as tie
-use Rattle.image_judge.proofs.answer.Reads as reads
-use Rattle.image_judge.proofs.answer.Lts as lts
 
 enum-told : tie.Need-enum-told
 enum-told c = search needs
