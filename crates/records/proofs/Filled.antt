@@ -2,6 +2,7 @@
 -- Assumes nothing.
 use mathlib.Core.Path.{_≡_, refl, ap, _∙_}
 use mathlib.Core.List.{List, [], _∷_}
+use mathlib.Core.Logic.{⊎-elim}
 use Prim.Native.Nat.{ℕ, suc, _+_, _*_, _≤_, _<_}
 use native.Mathlib.Nat.{add-mul, one-mul, add-zero, zero-add}
 use native.Mathlib.Omega.{arith}
@@ -16,8 +17,8 @@ use Rattle.records.proofs.Images.{written-read}
 use Rattle.records.proofs.Accepted.{read-good}
 use Rattle.records.specs.Stores.{singlesIn, rowIn, partIn, partsIn, imageIn}
 use Rattle.lists.specs.Over.{over, Shows}
-use Rattle.records.specs.Stores.{firsts, rowsOf, slotsBy, filledOf, SlotsShow}
-use Rattle.lists.proofs.Over.{length-over, over-before, over-shows, shows-left, shows-right}
+use Rattle.records.specs.Stores.{firsts, rowsOf, slotsBy, filledOf, SlotsShow, Apart}
+use Rattle.lists.proofs.Over.{length-over, over-before, over-after, over-shows, shows-left, shows-right}
 use Rattle.records.proofs.Records.{fit-length}
 
 -- ---- keys
@@ -83,6 +84,19 @@ slots-show b (p ∷ ps) i buffers g h =
           over-shows buffers (i * b) (firsts (p .held)) room j k),
       slots-show b ps (i + 1) (over buffers (i * b) (firsts (p .held))) (g .1) (rw n h′),
     )
+
+pub slots-length : (b : ℕ) (ps : List Part) (i : ℕ) (buffers : List ℕ) → length (slotsBy b ps i buffers) ≡ length buffers
+unfolding slotsBy
+slots-length b [] i buffers = refl
+slots-length b (p ∷ ps) i buffers = slots-length b ps (i + 1) (over buffers (i * b) (firsts (p .held))) ∙ length-over buffers (i * b) (firsts (p .held))
+
+-- a slot that no part uses keeps its contents
+pub slots-kept : (b q : ℕ) (ps : List Part) (i : ℕ) (buffers : List ℕ) → Apart b q i ps → getD (slotsBy b ps i buffers) q 0 ≡ getD buffers q 0
+unfolding slotsBy
+slots-kept b q [] i buffers h = refl
+slots-kept b q (p ∷ ps) i buffers h =
+    slots-kept b q ps (i + 1) (over buffers (i * b) (firsts (p .held))) (h .1) ∙
+    ⊎-elim (λ l. over-before buffers (i * b) (firsts (p .held)) q l) (λ g. over-after buffers (i * b) (firsts (p .held)) q (omega (arith, firsts-length (p .held)))) (h .0)
 
 -- ---- segments
 pub parts-back : (b : ℕ) (t buffers : List ℕ) (i : ℕ) (ps : List Part) → GoodParts first b ps → Shows t (5 * i) (rowsOf ps) → SlotsShow b buffers i ps

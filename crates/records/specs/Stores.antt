@@ -1,7 +1,8 @@
 -- The image of a lent store: its numbers, the n keys, and per segment its five numbers and its used slots. And the cells that an image fills.
 use mathlib.Core.List.{List, [], _∷_, _++_}
-use Prim.Native.Nat.{ℕ, zero, suc, _+_, _*_}
-use lib.ListN.{getD}
+use mathlib.Core.Logic.{_⊎_}
+use Prim.Native.Nat.{ℕ, zero, suc, _+_, _*_, _≤_, _<_}
+use lib.ListN.{length, getD}
 use Rattle.lists.specs.Over.{over, Shows}
 use Rattle.table.specs.Store.{Store, storeOf}
 use Rattle.records.specs.Images.{Part, Image}
@@ -62,3 +63,8 @@ filledOf v keys table buffers =
 abbrev pub SlotsShow : ℕ → List ℕ → ℕ → List Part → Type 0
 SlotsShow b buffers i [] = Unit
 SlotsShow b buffers i (p ∷ ps) = Shows buffers (i * b) (firsts (p .held)) × SlotsShow b buffers (i + 1) ps
+
+-- q is none of the slots that the parts' keys take
+abbrev pub Apart : ℕ → ℕ → ℕ → List Part → Type 0
+Apart b q i [] = Unit
+Apart b q i (p ∷ ps) = ((q < i * b) ⊎ (i * b + length (p .held) ≤ q)) × Apart b q (i + 1) ps
