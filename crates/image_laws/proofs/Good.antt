@@ -18,7 +18,7 @@ use Rattle.image_laws.specs.Writing.{Writable, Entries, Run}
 abbrev Small : List ℕ → ℕ → ℕ → Type 0
 Small cells from count = (j : ℕ) → j < count → getD cells (from + j) 0 < 256 ^ 6
 
-singles-length : (cells : List ℕ) (from count : ℕ) → length (singlesIn cells from count) ≡ count
+pub singles-length : (cells : List ℕ) (from count : ℕ) → length (singlesIn cells from count) ≡ count
 unfolding singlesIn
 singles-length cells from zero = refl
 singles-length cells from (suc count) = ap suc (singles-length cells (from + 1) count)

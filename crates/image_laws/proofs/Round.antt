@@ -30,7 +30,7 @@ use Rattle.records.proofs.Images.{read-written, written-read}
 use Rattle.records.proofs.Accepted.{read-good}
 use Rattle.records.proofs.Meaning.{rest-is}
 use Rattle.records.proofs.First.{first-proper}
-use Rattle.records.proofs.Filled.{FillRoom, filled-image, slots-length, slots-kept, firsts-length}
+use Rattle.records.proofs.Filled.{FillRoom, filled-image, slots-length, slots-kept, firsts-length, rows-length}
 use Rattle.image_read.specs.Loading.{loadOf}
 use Rattle.image_read.specs.declared.Loaded.the-variants.{Store as Read}
 use Rattle.image_read.proofs.Told.{Told, told-well}
@@ -45,7 +45,7 @@ use Rattle.image_laws.specs.Same.{Same}
 use Rattle.image_laws.specs.Round.{storeRead, Back, Again, Kept}
 use Rattle.image_laws.proofs.Writing.{entry-writable, cells-small, write-only}
 use Rattle.image_laws.proofs.Reading.{read-only}
-use Rattle.image_laws.proofs.Good.{image-good, good-entries, good-run}
+use Rattle.image_laws.proofs.Good.{singles-length, image-good, good-entries, good-run}
 use Rattle.image_laws.proofs.Same.{same-image}
 
 -- ---- the head's numbers, in the image and in the bytes
@@ -171,6 +171,23 @@ write-read σ out z w keys t bs k g =
     rw (over-start out (imageBytes first (imageIn σ)) r) (take-at (imageBytes first (imageIn σ)) (drop (length (imageBytes first (imageIn σ))) out) z n) in
     rw bytes (image-back σ (length out) z w keys t bs k g)
 
+-- ---- slots that a store does not use
+
+parts-of : (σ : Store) → imageIn σ .parts ≡ partsIn (σ .b) (σ .table) (σ .buffers) 0 (σ .s)
+unfolding imageIn
+parts-of σ = refl
+
+apart-in : (b p : ℕ) (t bs : List ℕ) (i count : ℕ) → ((k : ℕ) → i ≤ k → k < i + count → (j : ℕ) → j < getD t (5 * k + 4) 0 → p ≡ k * b + j → ⊥) → Apart b p i (partsIn b t bs i count)
+unfolding partsIn
+apart-in b p t bs i zero free = tt
+apart-in b p t bs i (suc count) free =
+    let n : length (singlesIn bs (i * b) (getD t (5 * i + 4) 0)) ≡ getD t (5 * i + 4) 0 = singles-length bs (i * b) (getD t (5 * i + 4) 0) in (
+      either (ltb p (i * b)) (λ x. inl (ltb-true p (i * b) x))
+          (λ x. either (leb (i * b + getD t (5 * i + 4) 0) p) (λ y. inr (let h : i * b + getD t (5 * i + 4) 0 ≤ p = leb-true (i * b + getD t (5 * i + 4) 0) p y in omega (arith, n)))
+          (λ y. absurd (free i (omega arith) (omega arith) (p - i * b) (omega (arith, ltb-false p (i * b) x, leb-false (i * b + getD t (5 * i + 4) 0) p y)) (omega (arith, ltb-false p (i * b) x))))),
+      apart-in b p t bs (i + 1) count (λ k a c. free k (omega arith) (omega arith)),
+    )
+
 -- ---- read, then write
 
 module _ (l keys t bs : List ℕ) (e b n s : ℕ) (small : Bytes l) (q : loadOf l keys t bs ≡ Read e b n s) where
@@ -236,3 +253,22 @@ module _ (l keys t bs : List ℕ) (e b n s : ℕ) (small : Bytes l) (q : loadOf 
 
   keys-long : length (firsts (v .keys)) ≡ n
   keys-long = firsts-length (v .keys) ∙ sym (v-good .keys-count) ∙ sym gn
+
+  table-long : length (rowsOf (v .parts)) ≡ 5 * s
+  table-long = rows-length (head l 1) (v .parts) (v-good .parts-good) ∙ ap (λ (k : ℕ). 5 * k) (sym (v-good .parts-count) ∙ sym gs)
+
+  slots-apart : (p : ℕ) → ((i j : ℕ) → i < s → j < entryIn τ i .held → p ≡ i * b + j → ⊥) → Apart b p 0 (v .parts)
+  unfolding entryOf
+  slots-apart p free =
+      let parts : v .parts ≡ partsIn b (τ .table) (τ .buffers) 0 s = sym (ap (λ (x : Image). x .parts) image-is) ∙ parts-of τ in
+      rw parts (apart-in b p (τ .table) (τ .buffers) 0 s (λ k a c j h e. free k j (omega arith) h e))
+
+  -- Exactly the used cells are set: every other cell keeps its contents, and no slice changes its length.
+  pub read-kept : Kept τ keys t bs
+  read-kept =
+      record {
+        keys-kept = λ p h. over-after keys 0 (firsts (v .keys)) p (omega (arith, keys-long));
+        table-kept = λ p h. over-after t 0 (rowsOf (v .parts)) p (omega (arith, table-long));
+        slots-kept = λ p free. slots-kept b p (v .parts) 0 bs (slots-apart p free);
+        lengths = (length-over keys 0 (firsts (v .keys)), length-over t 0 (rowsOf (v .parts)), slots-length b (v .parts) 0 bs);
+      }

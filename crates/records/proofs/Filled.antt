@@ -118,7 +118,7 @@ parts-back b t buffers i (p ∷ ps) g h k =
     ap (λ (q : Part). q ∷ partsIn b t buffers (i + 1) (length ps)) here ∙ ap (λ (qs : List Part). p ∷ qs) next
 
 -- ---- the whole
-rows-length : (b : ℕ) (ps : List Part) → GoodParts first b ps → length (rowsOf ps) ≡ 5 * length ps
+pub rows-length : (b : ℕ) (ps : List Part) → GoodParts first b ps → length (rowsOf ps) ≡ 5 * length ps
 unfolding rowsOf
 rows-length b [] g = refl
 rows-length b (p ∷ ps) g =
