@@ -23,6 +23,7 @@ fn fill_keys(bytes: &[u8], at: usize, cells: &mut [u64], to: usize, count: usize
     p
 }
 
+// Five cells of the table.
 fn put_five(table: &mut [u64], at: usize, first: u64, base: u64, rise: u64, run: u64, held: u64)
     requires { ⌜ Space (now table) at 5 ⌝ }
     ensures { λ _. ⌜ now (table .exit) ≡ over (now (table .entry)) at (first ∷ (base ∷ (rise ∷ (run ∷ (held ∷ []))))) ⌝ }
@@ -47,6 +48,7 @@ fn fill_row(bytes: &[u8], at: usize, table: &mut [u64], i: usize)
     put_five(table, 5 * i, first, base, rise, run, held);
 }
 
+// How many buffered keys the segment there says it holds.
 fn held_in(bytes: &[u8], at: usize) -> usize
     requires { ⌜ Space (now bytes) at 18 ⌝ }
     ensures { λ r. ⌜ r ≡ heldIn (now (bytes .entry)) at ⌝ }

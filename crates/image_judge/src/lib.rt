@@ -11,6 +11,7 @@ ghost use Rattle.records.specs.Images.{heldAt, partOf, partsOf, endOf, restOf, 
 ghost use Rattle.records.specs.First.{first};
 ghost use Rattle.image_judge.specs.Judging.{Ready, Readable, Laid, Held, Two, afterKeysOf, answerOf, headedOf, judgedOf};
 
+// Whether a record of this kind stands there: it is not cut short, and its first byte is right.
 fn stands(bytes: &[u8], k: Kind, at: usize) -> bool
     requires { ⌜ Ready k (now bytes) at ⌝ }
     ensures { λ r. ⌜ r ≡ standsAt k (now (bytes .entry)) at ⌝ }
@@ -42,12 +43,14 @@ fn walk(bytes: &[u8], k: Kind, at: usize, count: usize) -> Walked
     Walked::Past(p)
 }
 
+// A number of the image as a count.
 fn size(x: u64) -> usize
     ensures { λ r. ⌜ r ≡ x ⌝ }
 {
     x as usize
 }
 
+// How many buffered keys the segment there says it holds.
 fn held_at(bytes: &[u8], f: Layout, at: usize) -> usize
     requires { ⌜ Held f (now bytes) at ⌝ }
     ensures { λ r. ⌜ r ≡ heldAt f (now (bytes .entry)) at ⌝ }
@@ -70,6 +73,7 @@ fn part(bytes: &[u8], f: Layout, b: usize, at: usize) -> Walked
     Walked::Fault(at)
 }
 
+// Along all the segments.
 fn parts(bytes: &[u8], f: Layout, b: usize, s: usize, at: usize) -> Walked
     requires { ⌜ Readable f (now bytes) at ⌝ }
     ensures { λ r. ⌜ r ≡ partsOf f b (now (bytes .entry)) s at ⌝ }
@@ -106,6 +110,7 @@ fn end(bytes: &[u8], f: Layout, at: usize) -> Walked
     Walked::Fault(at)
 }
 
+// What follows the run keys.
 fn after(bytes: &[u8], f: Layout, b: usize, s: usize, at: usize) -> Walked
     requires { ⌜ Readable f (now bytes) at ⌝ }
     ensures { λ r. ⌜ r ≡ afterKeysOf f (now (bytes .entry)) b s at ⌝ }
@@ -117,6 +122,7 @@ fn after(bytes: &[u8], f: Layout, b: usize, s: usize, at: usize) -> Walked
     }
 }
 
+// What follows the head.
 fn rest(bytes: &[u8], f: Layout, b: usize, n: usize, s: usize, at: usize) -> Walked
     requires { ⌜ Readable f (now bytes) at ⌝ }
     ensures { λ r. ⌜ r ≡ restOf f (now (bytes .entry)) b n s at ⌝ }
@@ -139,6 +145,7 @@ pub enum Judged {
     Refused(Refusal),
 }
 
+// The answer after a head within its limits.
 fn answer(w: Walked, e: usize, b: usize, n: usize, s: usize) -> Judged
     ensures { λ r. ⌜ r ≡ answerOf e b n s w ⌝ }
 {

@@ -106,15 +106,12 @@ fn put_row(dst: &mut [u8], at: usize, table: &[u64], i: usize) -> usize
     ensures place { λ r. ⌜ r ≡ at + length (rowBytes (now (table .entry)) i) ⌝ }
     ensures cells { λ r. ⌜ now (dst .exit) ≡ over (now (dst .entry)) at (rowBytes (now (table .entry)) i) ⌝ }
 {
-    put_segment(
-        dst,
-        at,
-        table[5 * i],
-        table[5 * i + 1],
-        table[5 * i + 2],
-        table[5 * i + 3],
-        table[5 * i + 4],
-    )
+    let first = table[5 * i];
+    let base = table[5 * i + 1];
+    let rise = table[5 * i + 2];
+    let run = table[5 * i + 3];
+    let held = table[5 * i + 4];
+    put_segment(dst, at, first, base, rise, run, held)
 }
 
 // A segment and its buffered keys.
