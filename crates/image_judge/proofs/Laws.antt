@@ -23,7 +23,8 @@ use Rattle.records.specs.Images.{heldAt, segmentAt, partOf, partsOf, endOf, res
 use Rattle.records.specs.First.{first}
 use Rattle.records.proofs.Records.{stands-of, stands-yes, stands-no}
 use Rattle.records.proofs.Inside.{walk-inside, part-inside, parts-inside}
-use Rattle.image_judge.specs.Judging.{Ready, Readable, Laid, Held, Two, afterKeysOf, answerOf, headedOf, judgedOf}
+use Rattle.image_judge.specs.Judging.{answerOf, headedOf, judgedOf}
+use Rattle.image_judge.specs.Asks.{Ready, Readable, Laid, Held, Two, afterKeysOf}
 use Rattle.image_judge.specs.declared.Judged.{Judged}
 use Rattle.image_judge.specs.declared.Judged.the-variants.{Refused}
 

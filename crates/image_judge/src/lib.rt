@@ -9,7 +9,8 @@ ghost use Rattle.little.specs.Little.{getAt};
 ghost use Rattle.records.specs.Records.{standsAt, walkOf};
 ghost use Rattle.records.specs.Images.{heldAt, partOf, partsOf, endOf, restOf, layoutOf};
 ghost use Rattle.records.specs.First.{first};
-ghost use Rattle.image_judge.specs.Judging.{Ready, Readable, Laid, Held, Two, afterKeysOf, answerOf, headedOf, judgedOf};
+ghost use Rattle.image_judge.specs.Judging.{answerOf, headedOf, judgedOf};
+ghost use Rattle.image_judge.specs.Asks.{Ready, Readable, Laid, Held, Two, afterKeysOf};
 
 // Whether a record of this kind stands there: it is not cut short, and its first byte is right.
 fn stands(bytes: &[u8], k: Kind, at: usize) -> bool

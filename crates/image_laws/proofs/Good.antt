@@ -1,18 +1,18 @@
 -- The image of a store is good exactly where each of its entries and run keys can be written.
 -- Assumes nothing.
-use mathlib.Core.Path.{_≡_, refl, sym, ap, _∙_}
+use mathlib.Core.Path.{_≡_, refl, sym, ap}
 use mathlib.Core.List.{List, [], _∷_}
-use Prim.Native.Nat.{ℕ, zero, suc, _+_, _-_, _*_, _^_, _≤_, _<_}
+use Prim.Native.Nat.{ℕ, zero, suc, _+_, _*_, _^_, _≤_, _<_}
 use native.Mathlib.Nat.{add-zero, zero-add, not-suc-le-zero}
 use native.Mathlib.Omega.{arith}
 use lib.ListN.{length, getD}
 use Rattle.table.specs.Store.{Store}
 use Rattle.table.specs.Limits.{Limits}
 use Rattle.table.specs.Entries.{entryOf}
-use Rattle.records.specs.Records.{Fit, FitAll}
-use Rattle.records.specs.Images.{Part, Image, GoodPart, GoodParts, Good}
+use Rattle.records.specs.Records.{FitAll}
+use Rattle.records.specs.Images.{Part, GoodPart, GoodParts, Good}
 use Rattle.records.specs.First.{first}
-use Rattle.records.specs.Stores.{singlesIn, rowIn, partIn, partsIn, imageIn}
+use Rattle.records.specs.Stores.{singlesIn, partIn, partsIn, imageIn}
 use Rattle.image_laws.specs.Writing.{Writable, Entries, Run}
 
 abbrev Small : List ℕ → ℕ → ℕ → Type 0

@@ -4,11 +4,9 @@ use mathlib.Core.Path.{_≡_, refl, sym, ap, _∙_}
 use mathlib.Core.Bool.{true, false}
 use mathlib.Core.List.{List}
 use Prim.Native.Nat.{ℕ, _≤_, _<_}
-use lib.Dec.{leb}
 use borrow.Author.Tests.{leb-true, leb-false, le-leb, lt-leb}
 use Rattle.terms.specs.declared.Refusal.the-variants.{Limits as OutOfLimits, KeyRoom, SegmentRoom, Malformed}
 use Rattle.lists.proofs.Tests.{either, clash, is-false}
-use Rattle.little.specs.Little.{getAt}
 use Rattle.table.specs.Limits.{Counted, countedOf, keyRoom, segmentRoom}
 use Rattle.table.proofs.Limits.{counted-true, true-counted}
 use Rattle.records.specs.declared.Walked.{Walked}

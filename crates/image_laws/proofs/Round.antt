@@ -2,11 +2,10 @@
 -- And what reading does not touch.
 -- Assumes nothing.
 use mathlib.Core.Path.{_≡_, refl, sym, ap, _∙_}
-use mathlib.Core.Bool.{true, false}
-use mathlib.Core.List.{List, [], _∷_, _++_}
-use mathlib.Core.Logic.{_⊎_, inl, inr}
-use Prim.Native.Nat.{ℕ, zero, suc, _+_, _-_, _*_, _^_, _≤_, _<_}
-use native.Mathlib.Nat.{zero-add}
+use mathlib.Core.Bool.{true}
+use mathlib.Core.List.{List}
+use mathlib.Core.Logic.{inl, inr}
+use Prim.Native.Nat.{ℕ, zero, suc, _+_, _-_, _*_, _≤_, _<_}
 use native.Mathlib.Omega.{arith}
 use lib.Dec.{leb, ltb}
 use lib.ListN.{length, getD, take, drop}
@@ -15,16 +14,16 @@ use borrow.Author.Tests.{leb-true, leb-false, ltb-true, ltb-false}
 use Rattle.lists.specs.Over.{over}
 use Rattle.lists.proofs.Tests.{either}
 use Rattle.lists.proofs.Over.{length-over, over-after, over-start}
-use Rattle.little.specs.Little.{getAt, Bytes}
-use Rattle.table.specs.Store.{Store, storeOf}
+use Rattle.little.specs.Little.{Bytes}
+use Rattle.table.specs.Store.{Store}
 use Rattle.table.specs.Limits.{Limits, Counted, keyRoom, segmentRoom}
 use Rattle.table.specs.Entries.{entryOf, entryIn}
-use Rattle.records.specs.declared.Walked.the-variants.{Past, Fault}
+use Rattle.records.specs.declared.Walked.the-variants.{Past}
 use Rattle.records.specs.Records.{total, fieldsAt, standsAt, kindOf}
-use Rattle.records.specs.Images.{layoutOf, restOf, wellOf, Part, Image, imageBytes, imageAt, Good}
+use Rattle.records.specs.Images.{layoutOf, restOf, wellOf, Image, imageBytes, imageAt, Good}
 use Rattle.records.specs.Meaning.{Rest}
 use Rattle.records.specs.First.{first}
-use Rattle.records.specs.Stores.{singlesIn, partsIn, imageIn, firsts, rowsOf, slotsBy, filledOf, Apart}
+use Rattle.records.specs.Stores.{singlesIn, partsIn, imageIn, firsts, rowsOf, filledOf, Apart}
 use Rattle.records.proofs.Records.{no-fault, stands-true}
 use Rattle.records.proofs.Images.{read-written, written-read}
 use Rattle.records.proofs.Accepted.{read-good}
@@ -32,16 +31,13 @@ use Rattle.records.proofs.Meaning.{rest-is}
 use Rattle.records.proofs.First.{first-proper}
 use Rattle.records.proofs.Filled.{FillRoom, filled-image, slots-length, slots-kept, firsts-length, rows-length}
 use Rattle.image_read.specs.Loading.{loadOf}
-use Rattle.image_read.specs.declared.Loaded.the-variants.{Store as Read}
-use Rattle.image_read.proofs.Told.{Told, told-well}
+use Rattle.image_read.proofs.Told.{told-well}
 use Rattle.image_read.proofs.Laws.{Taken, taken}
 use Rattle.image_write.specs.Writing.{lengthOf, writeOf, outBy}
-use Rattle.image_write.specs.declared.Written.the-variants.{Bytes as Wrote}
 use Rattle.image_write.proofs.Laws.{Told as Writes, written-told}
 use Rattle.image_laws.specs.Writing.{Entries, Run, bytesOf, written}
 use Rattle.image_laws.specs.Reading.{eIn, bIn, nIn, sIn, Formed}
 use Rattle.image_laws.specs.Reading as reading
-use Rattle.image_laws.specs.Same.{Same}
 use Rattle.image_laws.specs.Round.{storeRead, Back, Again, Kept}
 use Rattle.image_laws.proofs.Writing.{entry-writable, cells-small, write-only}
 use Rattle.image_laws.proofs.Reading.{read-only}

@@ -1,15 +1,13 @@
 -- Stores with the same image are the same store; and the same store has the same entries, runs, used slots and reads.
 -- Assumes nothing.
 use mathlib.Core.Path.{_≡_, refl, sym, ap, _∙_}
-use mathlib.Core.Bool.{true, false}
-use mathlib.Core.List.{List, [], _∷_}
+use mathlib.Core.List.{List, []}
 use Prim.Native.Nat.{ℕ, zero, suc, _+_, _-_, _*_, _/_, _%_, _≤_, _<_}
 use native.Mathlib.Nat.{add-zero, zero-add, not-suc-le-zero, mul-le-mul-right, add-mul, one-mul}
 use native.Mathlib.Omega.{arith}
 use lib.Dec.{ltb}
 use lib.ListN.{length, getD}
-use borrow.Author.Tests.{ltb-true, ltb-false}
-use Rattle.lists.specs.Merge.{merge}
+use borrow.Author.Tests.{ltb-true}
 use Rattle.lists.proofs.Tests.{either}
 use Rattle.lists.proofs.Lists.{part-same}
 use Rattle.table.specs.Store.{Store}
@@ -17,7 +15,6 @@ use Rattle.table.specs.Limits.{Limits}
 use Rattle.table.specs.Entries.{entryOf, endOf, entryIn, runIn, usedIn}
 use Rattle.table.specs.Damaged.{Sound}
 use Rattle.table.specs.Reads.{mergedIn}
-use Rattle.terms.specs.declared.Entry.{Entry}
 use Rattle.records.specs.Images.{Part, Image}
 use Rattle.records.specs.Stores.{singlesIn, rowIn, partIn, partsIn, imageIn, firsts}
 use Rattle.image_laws.specs.Same.{Same}

@@ -19,7 +19,6 @@ use Rattle.image_read.specs.Loading.{keysHeld, segmentsHeld, roomedOf, loadOf}
 use Rattle.image_read.specs.declared.Loaded.{Loaded}
 use Rattle.image_read.specs.declared.Loaded.the-variants.{Store as Read, Refused as Unread}
 use Rattle.image_write.specs.Writing.{fitsAt, entryFits, runWrong, wrongOf, lengthOf, fittedOf, writeOf}
-use Rattle.image_write.specs.declared.Written.{Written}
 use Rattle.image_write.specs.declared.Written.the-variants.{Bytes, Refused as Unwritten}
 
 -- the printed store in slices of 16, 40 and 16 cells; what it does not use is 7

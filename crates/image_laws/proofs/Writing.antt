@@ -1,13 +1,12 @@
 -- Demand 1 for writing an image: its answer is the one that 01 describes, refusals exactly when and in the order its table says, and only that one.
 -- Assumes nothing.
-use mathlib.Core.Path.{_≡_, refl, sym, ap, _∙_}
-use mathlib.Core.Bool.{Bool, true, false}
+use mathlib.Core.Path.{_≡_, refl, sym, _∙_}
+use mathlib.Core.Bool.{true, false}
 use mathlib.Core.List.{List, [], _∷_}
 use Prim.Native.Nat.{ℕ, _+_, _-_, _*_, _^_, _≤_, _<_}
-use native.Mathlib.Nat.{zero-add}
 use native.Mathlib.Omega.{arith}
 use lib.Dec.{leb, ltb}
-use lib.ListN.{length, getD}
+use lib.ListN.{getD}
 use borrow.Author.Tests.{leb-true, leb-false, le-leb, lt-leb, ltb-true, ltb-false, lt-ltb}
 use Rattle.terms.specs.declared.Refusal.the-variants.{Limits as OutOfLimits, StoreWrong, OutRoom}
 use Rattle.lists.specs.Tests.{pick}
@@ -15,13 +14,12 @@ use Rattle.lists.proofs.Tests.{either, clash, is-true, is-false, all-each, each
 use Rattle.scan.specs.declared.Found.{Found}
 use Rattle.scan.specs.declared.Found.the-variants.{At, Nothing}
 use Rattle.scan.specs.Scan.{failsOf, noneOf}
-use Rattle.scan.specs.Meaning.{None, Lowest, Scanned}
+use Rattle.scan.specs.Meaning.{None, Scanned}
 use Rattle.scan.proofs.Meaning.{fails-scanned, scanned-same, one-answer, passes, passing}
 use Rattle.table.specs.Store.{Store}
 use Rattle.table.specs.Limits.{Limits, limitedOf}
 use Rattle.table.specs.Entries.{entryOf}
 use Rattle.table.proofs.Limits.{limited-true, true-limited}
-use Rattle.records.specs.Records.{fitsOf}
 use Rattle.records.specs.First.{first}
 use Rattle.records.specs.Stores.{rowIn}
 use Rattle.records.proofs.Records.{fits-fit, fit-fits}

@@ -1,7 +1,6 @@
 -- What each answer of image reading means, with no walk in it: 01's table, row by row, in its order 10 (head), 1, 10 (rest), 6, 7.
 use mathlib.Core.List.{List}
 use Prim.Native.Nat.{ℕ, _≤_, _<_}
-use lib.ListN.{length}
 use Rattle.terms.specs.declared.Refusal.the-variants.{Limits as OutOfLimits, KeyRoom, SegmentRoom, Malformed}
 use Rattle.little.specs.Little.{getAt}
 use Rattle.table.specs.Limits.{Counted, keyRoom, segmentRoom}

@@ -1,5 +1,4 @@
 -- What each answer of image writing means, with no scan in it: 01's table, row by row, in its order 1, 9, 8.
-use mathlib.Core.Path.{_≡_}
 use Prim.Native.Nat.{ℕ, _+_, _*_, _^_, _≤_, _<_}
 use lib.ListN.{length, getD}
 use Rattle.terms.specs.declared.Refusal.the-variants.{Limits as OutOfLimits, StoreWrong, OutRoom}

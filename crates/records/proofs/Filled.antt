@@ -7,14 +7,9 @@ use Prim.Native.Nat.{ℕ, suc, _+_, _*_, _≤_, _<_}
 use native.Mathlib.Nat.{add-mul, one-mul, add-zero, zero-add}
 use native.Mathlib.Omega.{arith}
 use lib.ListN.{length, getD, length-append}
-use Rattle.little.specs.Little.{Bytes}
 use Rattle.records.specs.Records.{Fit, FitAll}
-use Rattle.records.specs.Images.{Part, Image, GoodParts, Good, imageBytes, imageAt, wellOf}
+use Rattle.records.specs.Images.{Part, Image, GoodParts, Good}
 use Rattle.records.specs.First.{first}
-use Rattle.records.specs.declared.Walked.the-variants.{Past}
-use Rattle.records.proofs.First.{first-proper}
-use Rattle.records.proofs.Images.{written-read}
-use Rattle.records.proofs.Accepted.{read-good}
 use Rattle.records.specs.Stores.{singlesIn, rowIn, partIn, partsIn, imageIn}
 use Rattle.lists.specs.Over.{over, Shows}
 use Rattle.records.specs.Stores.{firsts, rowsOf, slotsBy, filledOf, SlotsShow, Apart}
@@ -157,9 +152,3 @@ filled-image v keys table buffers g r =
     let h : _ = four (v .head) (fit-length (first .head .widths) (v .head) (g .head-fits)) in
     simp (g .keys-count, g .parts-count, k, p)
     (ap (λ (xs : List ℕ). (let q : Image = record { head = xs; keys = v .keys; parts = ps } in q)) (simp (g .keys-count, g .parts-count) at h))
-
--- bytes that are read, and filled in, and written again, are the same bytes
-pub bytes-again : (l : List ℕ) (z : ℕ) (keys table buffers : List ℕ) → Bytes l → wellOf first l ≡ Past z → FillRoom (imageAt first l) keys table buffers
-    → imageBytes first (imageIn (filledOf (imageAt first l) keys table buffers)) ≡ l
-bytes-again l z keys table buffers small e r =
-    ap (imageBytes first) (filled-image (imageAt first l) keys table buffers (read-good l small first first-proper z e) r) ∙ written-read first first-proper l z small e

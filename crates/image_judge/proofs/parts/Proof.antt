@@ -1,6 +1,6 @@
 use borrow.Author.Needs.{needs}
 use Rattle.records.specs.Images.{partsOf}
-use Rattle.image_judge.specs.Judging.{Readable}
+use Rattle.image_judge.specs.Asks.{Readable}
 use mathlib.Core.Path.{_≡_}
 use Rattle.image_judge.proofs.Laws.{parts-cases}
 use Rattle.image_judge.proofs.parts.Statement.{statement}
