@@ -35,7 +35,6 @@ abbrev printed : Store
 printed = storeOf 1 2 6 2 keys table slots
 
 -- the same with other keys and another table
-
 abbrev tabled : List ℕ → List ℕ → Store
 tabled ks t = storeOf 1 2 6 2 ks t slots
 
