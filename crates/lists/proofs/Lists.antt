@@ -78,3 +78,12 @@ module _ {A : Type 0} where
   -- ys has come back from `&mut s[a..e]`
   pub mid-back : (xs ys : List A) (a e k : ℕ) → a + k ≡ e → putMid a k xs ys ≡ take a xs ++ (ys ++ drop e xs)
   mid-back xs ys a e k h = simp (drop-drop, h)
+
+-- ---- heads
+
+module _ {A : Type 0} where
+  pub nil-cons : {C : Type 0} (x : A) (xs : List A) → [] ≡ x ∷ xs → C
+  nil-cons x xs e = absurd (let z : _≡_ {A = ℕ} 0 (suc (length xs)) = ap length e in omega arith)
+
+  pub same-head : (x y : A) (xs ys : List A) → x ∷ xs ≡ y ∷ ys → x ≡ y
+  same-head x y xs ys e = ap (λ (l : List A). getD l 0 x) e

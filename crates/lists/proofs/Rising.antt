@@ -1,13 +1,18 @@
 -- Laws of strictly rising lists.
 -- Assumes nothing.
 use mathlib.Core.Path.{_≡_, refl}
+use mathlib.Core.Bool.{true}
 use mathlib.Core.List.{List, [], _∷_, _++_}
 use mathlib.Core.Logic.{_⊎_, inl, inr, ⊎-elim}
 use Prim.Native.Nat.{ℕ, zero, suc, _+_, _≤_, _<_}
 use native.Mathlib.Nat.{not-suc-le-zero}
 use native.Mathlib.Omega.{arith}
 use lib.ListN.{length, getD, take, drop}
-use Rattle.lists.specs.Rising.{Up, In}
+use lib.Dec.{leb, ltb}
+use borrow.Author.Tests.{leb-true, le-leb, ltb-true, lt-ltb}
+use Rattle.lists.specs.Tests.{both}
+use Rattle.lists.specs.Rising.{Up, upOf, In}
+use Rattle.lists.proofs.Tests.{both-true, true-both}
 
 pub lower : (lo lo′ hi : ℕ) (xs : List ℕ) → lo ≤ lo′ → Up lo′ hi xs → Up lo hi xs
 lower lo lo′ hi [] h u = tt
@@ -82,3 +87,54 @@ rises-up lo hi (x ∷ xs) a r = (
     rises-up (suc x) hi xs (λ i h. (r 0 (suc i) (omega arith) (omega arith), a (suc i) (omega arith) .1)) (λ i j h l. r (suc i) (suc j) (omega arith) (omega arith)),
   ),
 )
+
+-- neighbours that rise, rise all the way
+pub neighbours-up : (lo hi : ℕ) (xs : List ℕ) → (0 < length xs → lo ≤ getD xs 0 0) → ((i : ℕ) → i < length xs → getD xs i 0 < hi) → ((i : ℕ) → suc i < length xs → getD xs i 0 < getD xs (suc i) 0) → Up lo hi xs
+neighbours-up lo hi [] low small rise = tt
+neighbours-up lo hi (x ∷ xs) low small rise = (
+  low (omega arith),
+  (
+    small 0 (omega arith),
+    neighbours-up (suc x) hi xs (λ h. rise 0 (omega arith)) (λ i h. small (suc i) (omega arith)) (λ i h. rise (suc i) (omega arith)),
+  ),
+)
+
+pub up-drop : (lo hi : ℕ) (xs : List ℕ) (n : ℕ) → Up lo hi xs → Up lo hi (drop n xs)
+up-drop lo hi xs zero u = u
+up-drop lo hi [] (suc n) u = tt
+up-drop lo hi (x ∷ xs) (suc n) u = lower lo (suc x) hi (drop n xs) (omega (arith, u .0)) (up-drop (suc x) hi xs n (u .1 .1))
+
+-- ---- where it is, and its bounds by what is in it
+
+pub record Place (k : ℕ) (xs : List ℕ) : Type 0 where
+  pub place : ℕ
+  pub inside : place < length xs
+  pub is : getD xs place 0 ≡ k
+
+pub in-place : (k : ℕ) (xs : List ℕ) → In k xs → Place k xs
+in-place k [] i = absurd i
+in-place k (x ∷ xs) i =
+    ⊎-elim (λ e. record { place = 0; inside = omega arith; is = e })
+    (λ j. let w : Place k xs = in-place k xs j in record { place = suc (w .place); inside = omega (arith, w .inside); is = w .is }) i
+
+pub up-within : (lo hi lo′ hi′ : ℕ) (xs : List ℕ) → Up lo hi xs → ((k : ℕ) → In k xs → lo′ ≤ k) → ((k : ℕ) → In k xs → k < hi′) → Up lo′ hi′ xs
+up-within lo hi lo′ hi′ [] u a b = tt
+up-within lo hi lo′ hi′ (x ∷ xs) u a b =
+    (a x (inl refl), (b x (inl refl), up-within (suc x) hi (suc x) hi′ xs (u .1 .1) (λ k i. in-up (suc x) hi k xs (u .1 .1) i) (λ k i. b k (inr i))))
+
+-- ---- as a test
+
+pub up-true : (lo hi : ℕ) (xs : List ℕ) → upOf lo hi xs ≡ true → Up lo hi xs
+unfolding upOf
+up-true lo hi [] h = tt
+up-true lo hi (x ∷ xs) h =
+    let p : _ = both-true (both (leb lo x) (ltb x hi)) (upOf (suc x) hi xs) h in
+    let q : _ = both-true (leb lo x) (ltb x hi) (p .0) in
+    (leb-true lo x (q .0), (ltb-true x hi (q .1), up-true (suc x) hi xs (p .1)))
+
+pub true-up : (lo hi : ℕ) (xs : List ℕ) → Up lo hi xs → upOf lo hi xs ≡ true
+unfolding upOf
+true-up lo hi [] u = refl
+true-up lo hi (x ∷ xs) u =
+    true-both (both (leb lo x) (ltb x hi)) (upOf (suc x) hi xs) (true-both (leb lo x) (ltb x hi) (le-leb lo x (u .0)) (lt-ltb x hi (u .1 .0)))
+    (true-up (suc x) hi xs (u .1 .1))

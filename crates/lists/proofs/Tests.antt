@@ -97,3 +97,8 @@ none-holds ts h = sym (each-any ts h)
 
 pub some-holds : (ts : List Bool) → (Each false ts → ⊥) → true ≡ any ts
 some-holds ts h = sym (is-true (any ts) (λ e. h (any-each ts e)))
+
+-- a proof about a choice, by its test
+pub pick-cases : {A : Type 0} (P : A → Type 0) (t : Bool) (a b : A) → (t ≡ true → P a) → (t ≡ false → P b) → P (pick t a b)
+pick-cases P true a b f g = f refl
+pick-cases P false a b f g = g refl

@@ -1,0 +1,28 @@
+use borrow.Author.Needs.{needs}
+use Rattle.scan.specs.Scan.{failsOf}
+use Rattle.build.specs.Build.{goodOf, faultOf}
+use mathlib.Core.Path.{_≡_}
+use Prim.Native.Nat.{_-_}
+use Rattle.build.proofs.Faults.{fault-cases}
+use Rattle.build.proofs.lowest_fault.Statement.{statement}
+use Rattle.build.proofs.lowest_fault.Tie as tie
+
+abbrev Inv-loop : tie.InvT-loop
+Inv-loop keys n p₀ p = faultOf keys n ≡ failsOf (goodOf keys) p (n - p)
+
+abbrev μ-loop : tie.MeasureT-loop
+μ-loop keys n p₀ p = n - p
+
+pub lowest-fault-spec : {M : Type 1} → statement M
+lowest-fault-spec =
+    tie.close
+    (tie.spec
+    Inv-loop
+    μ-loop
+    (λ c. search (fault-cases, needs))  -- loop-holds
+    (λ c κs. search (fault-cases, needs))  -- good-requires
+    (λ c. search (fault-cases, needs))  -- add-p
+    (λ c. search (fault-cases, needs))  -- loop-less
+    (λ c. search (fault-cases, needs))  -- loop-again
+    (λ c. search (fault-cases, needs))  -- returns
+    (λ c. search (fault-cases, needs)))

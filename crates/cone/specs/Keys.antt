@@ -1,0 +1,11 @@
+-- The keys that a cut is made of: few, small and strictly rising, with a bound within its limit.
+use mathlib.Core.List.{List}
+use Prim.Native.Nat.{ℕ, _≤_}
+use lib.ListN.{length}
+use Rattle.lists.specs.Rising.{Up}
+use Rattle.terms.specs.Limits.{keyLimit, eMost, nMost}
+
+pub record Cuttable (e : ℕ) (ks : List ℕ) : Type 0 where
+  pub bound : e ≤ eMost
+  pub few : length ks ≤ nMost
+  pub rising : Up 0 keyLimit ks

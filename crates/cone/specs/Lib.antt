@@ -1,0 +1,5 @@
+pub mod Rule
+pub mod Step
+pub mod Keys
+pub mod Cover
+pub mod Runs

@@ -1,0 +1,14 @@
+use borrow.Author.Needs.{needs}
+use Rattle.judge.proofs.Laws.{key-cases}
+use Rattle.judge.proofs.key_ok.Statement.{statement}
+use Rattle.judge.proofs.key_ok.Tie as tie
+
+pub key-ok-spec : {M : Type 1} → statement M
+key-ok-spec =
+    tie.close
+    (tie.spec
+    (λ c. search (key-cases, needs))  -- add-run-key
+    (λ c κs. search (key-cases, needs))  -- run-key-requires
+    (λ c. search (key-cases, needs))  -- returns
+    (λ c κs. search (key-cases, needs))  -- used-key-requires
+    (λ c. search (key-cases, needs)))

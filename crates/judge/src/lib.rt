@@ -1,0 +1,235 @@
+// The check: whether a store keeps every rule, and the lowest segment that breaks one.
+use order::Cursor;
+use order::Next;
+use terms::Entry;
+use terms::Key;
+use terms::Refusal;
+ghost use mathlib.Core.Path.{_≡_};
+ghost use mathlib.Core.Bool.{Bool};
+ghost use Prim.Native.Nat.{_+_};
+ghost use lib.Dec.{ltb, leb, eqb};
+ghost use Rattle.lists.specs.Tests.{pick, imp};
+ghost use Rattle.table.specs.Store.{storeOf};
+ghost use Rattle.table.specs.Entries.{Row, runOf, usedOf};
+ghost use Rattle.judge.specs.declared.Bound.the-variants.{Free};
+ghost use Rattle.judge.specs.Check.{Drawn, Placed, Parts, Lent, Segment, aboveOf, underOf, ceilingOf, betweenOf, runKeyOf, usedKeyOf, keptOf, rulesOf, checkOf};
+
+pub enum Checked {
+    Good,
+    Refused(Refusal),
+}
+
+// A key that bounds others, or none: with no key past the greatest to stand for none, keys may fill a word.
+pub enum Bound {
+    Free,
+    By(u64),
+}
+
+// Whether a key is above the one before it.
+fn above(before: Bound, k: u64) -> bool
+    ensures { λ (r : Bool). ⌜ r ≡ aboveOf before k ⌝ }
+{
+    match before {
+        Bound::Free => true,
+        Bound::By(l) => l < k,
+    }
+}
+
+// Whether a key is below the next segment's first key.
+fn under(next: Bound, k: u64) -> bool
+    ensures { λ (r : Bool). ⌜ r ≡ underOf next k ⌝ }
+{
+    match next {
+        Bound::Free => true,
+        Bound::By(l) => k < l,
+    }
+}
+
+// Whether a key of the merged order is a key, above the one before it and below the next first key.
+fn between(next: Bound, before: Bound, k: u64) -> bool
+    ensures { λ (r : Bool). ⌜ r ≡ betweenOf next before k ⌝ }
+{
+    if terms::is_key(k) {
+        if above(before, k) {
+            return under(next, k);
+        }
+        return false;
+    }
+    false
+}
+
+// A key of the run, at position p.
+fn run_key(e: usize, x: Entry, next: Bound, before: Bound, k: u64, p: usize) -> bool
+    requires { ⌜ Drawn x ⌝ }
+    ensures { λ (r : Bool). ⌜ r ≡ runKeyOf e x next before k p ⌝ }
+{
+    if between(next, before, k) {
+        let w = line::window(x, Key(k), e);
+        if p < w.from.0 {
+            return false;
+        }
+        return p < w.to.0;
+    }
+    false
+}
+
+// In a segment after 0 no used key is below the first key.
+fn not_before(i: usize, first: u64, k: u64) -> bool
+    ensures { λ (r : Bool). ⌜ r ≡ imp (ltb 0 i) (leb first k) ⌝ }
+{
+    if i == 0 {
+        return true;
+    }
+    first <= k
+}
+
+// A used key.
+fn used_key(x: Entry, i: usize, next: Bound, before: Bound, k: u64) -> bool
+    ensures { λ (r : Bool). ⌜ r ≡ usedKeyOf x i next before k ⌝ }
+{
+    if between(next, before, k) {
+        return not_before(i, x.first.0, k);
+    }
+    false
+}
+
+// A key of the merged order: of the run, at the place `at` in it, where the cursor moved on there to `past`, else a used one.
+fn key_ok(
+    e: usize,
+    x: Entry,
+    i: usize,
+    next: Bound,
+    before: Bound,
+    k: u64,
+    at: usize,
+    past: usize,
+) -> bool
+    requires { ⌜ Placed x at ⌝ }
+    ensures { λ (r : Bool). ⌜ r ≡ pick (ltb at past) (runKeyOf e x next before k (x .base .0 + at)) (usedKeyOf x i next before k) ⌝ }
+{
+    if at < past {
+        return run_key(e, x, next, before, k, x.base.0 + at);
+    }
+    used_key(x, i, next, before, k)
+}
+
+// Each key of segment i, in merged order: one pass over its run and its used slots, where they lie.
+fn kept(e: usize, x: Entry, i: usize, next: Bound, run: &[u64], used: &[u64]) -> bool
+    requires { ⌜ Parts x (now run) ⌝ }
+    ensures { λ (r : Bool). ⌜ r ≡ keptOf e x i next Free (x .base .0) (now (run .entry)) (now (used .entry)) ⌝ }
+{
+    let mut m = Cursor::pair();
+    let mut before = Bound::Free;
+    loop {
+        let n = m.next(run, used, 0);
+        match n {
+            Next::Key(k, past) => {
+                if key_ok(e, x, i, next, before, k, m.i, past.i) {
+                    before = Bound::By(k);
+                    m = past;
+                } else {
+                    return false;
+                }
+            }
+            Next::Done => {
+                return true;
+            }
+        }
+    }
+}
+
+// The same with the whole slices: the run and the used slots are lent on as parts.
+fn kept_at(
+    e: usize,
+    b: usize,
+    keys: &[u64],
+    buffers: &[u64],
+    x: Entry,
+    i: usize,
+    next: Bound,
+) -> bool
+    requires { ⌜ Lent b (now keys) (now buffers) x i ⌝ }
+    ensures { λ (r : Bool). ⌜ r ≡ keptOf e x i next Free (x .base .0) (runOf (now (keys .entry)) x) (usedOf b (now (buffers .entry)) i (x .held)) ⌝ }
+{
+    let base = x.base.0;
+    let end = x.end.0;
+    let at = i * b;
+    let to = at + x.held;
+    kept(e, x, i, next, &keys[base..end], &buffers[at..to])
+}
+
+// What no key of segment i may reach.
+fn ceiling(table: &[u64], s: usize, i: usize) -> Bound
+    requires { ⌜ Row (now table) s i ⌝ }
+    ensures { λ r. ⌜ r ≡ ceilingOf s (now (table .entry)) i ⌝ }
+{
+    if i + 1 < s {
+        return Bound::By(table[5 * (i + 1)]);
+    }
+    Bound::Free
+}
+
+// Segment 0 has base 0.
+fn starts(i: usize, base: usize) -> bool
+    ensures { λ (r : Bool). ⌜ r ≡ imp (eqb i 0) (eqb base 0) ⌝ }
+{
+    if i == 0 {
+        return base == 0;
+    }
+    true
+}
+
+// Whether segment i keeps every rule.
+fn segment_ok(
+    e: usize,
+    b: usize,
+    n: usize,
+    s: usize,
+    keys: &[u64],
+    table: &[u64],
+    buffers: &[u64],
+    i: usize,
+) -> bool
+    requires { ⌜ Segment (storeOf e b n s (now keys) (now table) (now buffers)) i ⌝ }
+    ensures { λ (r : Bool). ⌜ r ≡ rulesOf (storeOf e b n s (now (keys .entry)) (now (table .entry)) (now (buffers .entry))) i ⌝ }
+{
+    let x = table::entry_at(table, n, s, i);
+    if table::damaged(x, b, n) {
+        return false;
+    }
+    if starts(i, x.base.0) {
+        let base = x.base.0;
+        if keys[base] == x.first.0 {
+            let next = ceiling(table, s, i);
+            return kept_at(e, b, keys, buffers, x, i, next);
+        }
+        return false;
+    }
+    false
+}
+
+// Whether a store keeps every rule; the lowest segment that breaks one. Refusals in this order: 1, 9.
+pub fn check(
+    e: usize,
+    b: usize,
+    n: usize,
+    s: usize,
+    keys: &[u64],
+    table: &[u64],
+    buffers: &[u64],
+) -> Checked
+    ensures { λ r. ⌜ r ≡ checkOf (storeOf e b n s (now (keys .entry)) (now (table .entry)) (now (buffers .entry))) ⌝ }
+{
+    if table::limited(e, b, n, s, keys, table, buffers) {
+        let mut i = 0;
+        while i < s {
+            if segment_ok(e, b, n, s, keys, table, buffers, i) {
+                i += 1;
+            } else {
+                return Checked::Refused(Refusal::StoreWrong(i));
+            }
+        }
+        return Checked::Good;
+    }
+    Checked::Refused(Refusal::Limits)
+}

@@ -1,0 +1,9 @@
+pub mod Kept
+pub mod Bridge
+pub mod Meaning
+pub mod Segments
+pub mod Whereabouts
+pub mod Covered
+pub mod Exactly
+pub mod Outcome
+pub mod Vectors
