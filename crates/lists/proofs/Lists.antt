@@ -39,6 +39,14 @@ module _ {ℓ} {A : Type ℓ} where
   pub drop-past : (l p rest : List A) (i w : ℕ) → drop i l ≡ p ++ rest → length p ≡ w → drop (i + w) l ≡ rest
   drop-past l p rest i w e h = sym (drop-drop w i l) ∙ ap (drop w) e ∙ drop-at p rest w h
 
+  -- two lists with the same elements on a stretch have the same part there
+  pub part-same : (xs ys : List A) (a n : ℕ) (d : A) → a + n ≤ length xs → a + n ≤ length ys → ((p : ℕ) → a ≤ p → p < a + n → getD xs p d ≡ getD ys p d) → take n (drop a xs) ≡ take n (drop a ys)
+  part-same xs ys a zero d h k same = refl
+  part-same xs ys a (suc n) d h k same =
+      take-drop-suc xs a n d (omega arith) ∙ ap (λ (x : A). x ∷ take n (drop (suc a) xs)) (same a (omega arith) (omega arith)) ∙
+      ap (λ (l : List A). getD ys a d ∷ l) (part-same xs ys (suc a) n d (omega arith) (omega arith) (λ p l m. same p (omega arith) (omega arith))) ∙
+      sym (take-drop-suc ys a n d (omega arith))
+
   pub drop-take : (p h : ℕ) (l : List A) → drop p (take h l) ≡ take (h - p) (drop p l)
   drop-take zero h l = rw sub-zero
   drop-take (suc p) zero l = rw zero-sub
