@@ -79,3 +79,18 @@ module _ {A : Type 0} where
 
   pub same-head : (x y : A) (xs ys : List A) → x ∷ xs ≡ y ∷ ys → x ≡ y
   same-head x y xs ys e = ap (λ (l : List A). getD l 0 x) e
+
+-- ---- a front of a front, and what follows a part of it
+
+module _ {A : Type 0} where
+  pub take-front : (h m : ℕ) (l r : List A) → h ≤ m → m ≤ length l → take h (take m l ++ r) ≡ take h l
+  take-front zero m l r a b = refl
+  take-front (suc h) zero l r a b = absurd (omega arith)
+  take-front (suc h) (suc m) [] r a b = absurd (omega arith)
+  take-front (suc h) (suc m) (x ∷ l) r a b = ap (λ (t : List A). x ∷ t) (take-front h m l r (omega arith) (omega arith))
+
+  pub drop-front : (h m n : ℕ) (l r : List A) → h + n ≡ m → m ≤ length l → drop h (take m l ++ r) ≡ take n (drop h l) ++ r
+  drop-front zero m n l r e b = let f : m ≡ n = omega arith in ap (λ (c : ℕ). take c l ++ r) f
+  drop-front (suc h) zero n l r e b = absurd (omega arith)
+  drop-front (suc h) (suc m) n [] r e b = absurd (omega arith)
+  drop-front (suc h) (suc m) n (x ∷ l) r e b = drop-front h m n l r (omega arith) (omega arith)
