@@ -13,7 +13,7 @@ use Rattle.lists.proofs.Merging.{length-insert, length-merge}
 use Rattle.terms.specs.declared.Entry.{Entry}
 use Rattle.table.specs.Store.{Store}
 use Rattle.table.specs.Limits.{Limits}
-use Rattle.table.specs.Entries.{entryIn, usedIn}
+use Rattle.table.specs.Entries.{entryIn}
 use Rattle.cone.specs.Rule.{cut}
 use Rattle.cutting.specs.Rows.{rowsOf}
 use Rattle.segments.specs.Seg.{Seg, runsOf, buffered, mergedList, Bare}

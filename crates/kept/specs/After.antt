@@ -16,6 +16,12 @@ unfoldable pub after : Store → List ℕ → Store
 after σ [] = σ
 after σ (k ∷ ks) = after (afterOne σ k) ks
 
+-- the plain list after an insert of k: k in its rising place if the answer is that it was taken in, else the same
+abbrev pub listBy : Inserted → ℕ → List ℕ → List ℕ
+listBy (Buffered i j) k l = insertSorted k l
+listBy (Merged i t n s) k l = insertSorted k l
+listBy (Refused r) k l = l
+
 -- k before the others, if the answer is that it was taken in
 abbrev pub takenBy : Inserted → ℕ → List ℕ → List ℕ
 takenBy (Buffered i j) k ks = k ∷ ks

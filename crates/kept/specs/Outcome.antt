@@ -1,6 +1,5 @@
 -- What insert answers on an accepted store: 9 and 1 are not among the answers, and 5 is given where the plain list has the key.
 use mathlib.Core.Path.{_≡_}
-use mathlib.Core.List.{List}
 use Prim.Native.Nat.{ℕ, _+_, _-_, _≤_, _<_}
 use Rattle.lists.specs.Rising.{In}
 use Rattle.lists.specs.Merge.{placeOf}

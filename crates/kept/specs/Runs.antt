@@ -1,7 +1,6 @@
 -- 01, "Runs on the ramp", P9 to P12, on the printed store. Two tables, and a theorem over each, which computes.
 -- The slices have room: 16 keys, 8 entries, 16 slots; every cell past the counts, and every unused slot, holds 7.
 use mathlib.Core.Path.{_≡_, refl}
-use mathlib.Core.Bool.{Bool}
 use mathlib.Core.List.{List, [], _∷_, _++_}
 use Prim.Native.Nat.{ℕ, zero, suc, _-_}
 use Rattle.lists.specs.Tests.{all, any}

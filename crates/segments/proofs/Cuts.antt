@@ -1,11 +1,11 @@
 -- The cut of a rising list is a cutting: its segments are in order, hold nothing, and make up the list; and its rows are the segments' rows.
 -- Assumes nothing.
 use mathlib.Core.Path.{_≡_, refl, sym, ap, _∙_}
-use mathlib.Core.List.{List, [], _∷_, _++_}
-use Prim.Native.Nat.{ℕ, zero, suc, _+_, _-_, _*_, _≤_, _<_}
+use mathlib.Core.List.{List, [], _∷_}
+use Prim.Native.Nat.{ℕ, suc, _+_, _≤_, _<_}
 use native.Mathlib.Nat.{add-zero}
 use native.Mathlib.Omega.{arith}
-use lib.ListN.{length, getD, take, drop, length-drop, take-append-drop}
+use lib.ListN.{length, getD, drop, length-drop, take-append-drop}
 use lib.Seq.{getD-take, getD-drop, length-take-le, drop-drop, drop-length}
 use Rattle.line.proofs.Exact.{quotient-most, quotient-least}
 use Rattle.cone.specs.Rule.{Segment, cut}

@@ -2,14 +2,13 @@
 -- Assumes nothing.
 use mathlib.Core.Path.{_≡_, refl, sym, ap, subst, _∙_}
 use mathlib.Core.List.{List, [], _∷_}
-use Prim.Native.Nat.{ℕ, suc, _+_, _-_, _*_, _≤_, _<_}
+use Prim.Native.Nat.{ℕ, suc, _+_, _-_, _≤_, _<_}
 use native.Mathlib.Omega.{arith}
 use lib.Dec.{leb}
 use lib.ListN.{length, getD, drop, length-append}
 use lib.Seq.{getD-take, getD-drop}
 use borrow.Author.Tests.{leb-true, leb-false}
 use Rattle.lists.specs.Rising.{Up, In}
-use Rattle.lists.specs.Merge.{merge}
 use Rattle.lists.proofs.Tests.{either}
 use Rattle.lists.proofs.Rising.{lower, higher, in-up, in-below}
 use Rattle.lists.proofs.Merging.{Split, merged-split}

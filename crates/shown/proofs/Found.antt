@@ -5,7 +5,7 @@ use mathlib.Core.Path.{_≡_, refl, sym, ap, subst, _∙_}
 use mathlib.Core.Logic.{⊎-elim}
 use Prim.Native.Nat.{ℕ, _+_, _-_, _*_, _≤_, _<_}
 use native.Mathlib.Omega.{arith}
-use lib.ListN.{length, getD}
+use lib.ListN.{getD}
 use Rattle.lists.specs.Rising.{In}
 use Rattle.lists.proofs.Rising.{Place, in-place, in-at, in-below}
 use Rattle.lists.proofs.Merging.{in-merge, in-merge-left, in-merge-right}
@@ -13,13 +13,12 @@ use Rattle.terms.specs.Limits.{keyLimit, keyOf}
 use Rattle.terms.specs.declared.Refusal.{Refusal}
 use Rattle.table.specs.Store.{Store}
 use Rattle.table.specs.Entries.{entryIn, runIn, usedIn}
-use Rattle.table.specs.Chosen.{Chosen}
 use Rattle.table.specs.Reads.{mergedIn, reads}
 use Rattle.line.specs.Meaning.{Near}
 use Rattle.lookup.specs.declared.Looked.{Looked}
-use Rattle.lookup.specs.declared.Looked.the-variants.{InRun, InBuffer, Absent, Refused}
+use Rattle.lookup.specs.declared.Looked.the-variants.{Absent, Refused}
 use Rattle.lookup.specs.Lookup.{lookupOf}
-use Rattle.lookup_laws.specs.Answers.{Taken, Stands, Waits, Missing, Answers, in-run, in-buffer, absent, refused-1, refused-2, refused-9}
+use Rattle.lookup_laws.specs.Answers.{Stands, Waits, Missing, Answers, in-run, in-buffer, absent, refused-1, refused-2, refused-9}
 use Rattle.lookup_laws.proofs.Meaning.{slot-at, answers}
 use Rattle.judge.specs.Rules.{Accepted}
 use Rattle.judge_laws.proofs.Bridge.{run-at}

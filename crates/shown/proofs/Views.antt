@@ -16,7 +16,7 @@ use Rattle.table.specs.Entries.{entryOf, entryIn, runIn, usedIn}
 use Rattle.table.specs.Reads.{mergedIn}
 use Rattle.line.specs.Meaning.{Near}
 use Rattle.judge.specs.Rules.{Rules, Accepted}
-use Rattle.judge_laws.proofs.Bridge.{first-is, run-length, run-at}
+use Rattle.judge_laws.proofs.Bridge.{run-length, run-at}
 use Rattle.judge_laws.proofs.Segments.{held-from, held-below, held-key}
 use Rattle.segments.specs.Seg.{Close, Fair, ceil, allOf, Chain, runsOf}
 use Rattle.shown.specs.Shows.{segOf, segsFrom, segments, Shown}

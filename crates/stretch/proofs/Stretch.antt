@@ -1,7 +1,7 @@
 -- Demand 2, "what is .. listed .. is what a plain sorted list of all reads .. says": the stretch that a range looks at has all the keys from
 -- low to high that the store has, and no key from low to high is outside it.
 -- Assumes nothing.
-use mathlib.Core.Path.{_≡_, refl, sym, ap, _∙_}
+use mathlib.Core.Path.{_≡_, sym, ap, _∙_}
 use mathlib.Core.List.{List, _++_, append-nil, append-assoc}
 use Prim.Native.Nat.{ℕ, zero, suc, _+_, _-_, _*_, _≤_, _<_}
 use native.Mathlib.Omega.{arith}
