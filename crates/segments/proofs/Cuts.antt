@@ -80,8 +80,10 @@ rows-from : (ks : List ℕ) (at : ℕ) (xs : List Segment) (i : ℕ) → Tiled k
 unfolding rowsOf
 rows-from ks at [] i t c = refl
 rows-from ks at (x ∷ xs) i t c =
-    let e : at + i + length (segBy ks x .keys) ≡ at + (i + (x .rise + 1)) = omega (arith, length-keys ks x (c .0)) in
-    rw (e, t .0, rows-from ks at xs (i + (x .rise + 1)) (t .1) (c .1)) refl
+    let e : at + (i + (x .rise + 1)) ≡ at + i + length (segBy ks x .keys) = omega (arith, length-keys ks x (c .0)) in
+    ap (λ (m : ℕ). x .first ∷ ((at + m) ∷ (x .rise ∷ (x .run ∷ (0 ∷ rowsOf at xs))))) (t .0)
+    ∙ ap (λ (l : List ℕ). x .first ∷ ((at + i) ∷ (x .rise ∷ (x .run ∷ (0 ∷ l)))))
+    (rows-from ks at xs (i + (x .rise + 1)) (t .1) (c .1) ∙ ap (λ (m : ℕ). rows m (segsBy ks xs)) e)
 
 -- the entries of a cut, bases from `at` on, are those of its segments
 pub rows-cut : (e : ℕ) (ks : List ℕ) (at : ℕ) → rowsOf at (cut e ks) ≡ rows at (cutSegs e ks)
