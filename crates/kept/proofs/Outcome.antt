@@ -42,7 +42,7 @@ use Rattle.shown.proofs.Found.{found-read, absent-unread}
 use Rattle.insert.specs.declared.Inserted.{Inserted}
 use Rattle.insert.specs.declared.Inserted.the-variants.{Refused}
 use Rattle.insert.specs.Insert.{mergedWith, piecesOf, roomFor, laterOk, mergeFor, placedFor, unlessFound, segmentFor, insertOf}
-use Rattle.kept.specs.Outcome.{Wanted, Due, Outcome, large, present, buffered, no-keys, no-segments, merged}
+use Rattle.kept.specs.Outcome.{Wanted, Due, Says, Outcome, large, present, buffered, no-keys, no-segments, merged}
 
 module _ (σ : Store) (ok : Accepted σ) (k : ℕ) where
   module _ (i : ℕ) (wanted : Wanted σ k i) where
@@ -140,6 +140,18 @@ module _ (σ : Store) (ok : Accepted σ) (k : ℕ) where
 
   -- ---- and so, refusal by refusal
 
+  by-says : {a : Inserted} → Outcome σ k a → Says σ k a
+  by-says (large h) = h
+  by-says (present h r) = r
+  by-says (buffered w r) = w
+  by-says (no-keys {i} d h) = record { segment = i; due = d; over = h }
+  by-says (no-segments {i} d h r) = record { segment = i; due = d; over = r }
+  by-says (merged d h r) = d
+
+  -- Every answer says what it should; 1, 9 and the refusals of other calls are not given.
+  pub says : Says σ k (insertOf σ k)
+  says = by-says outcome
+
   by-large : {a : Inserted} → Outcome σ k a → keyLimit ≤ k → a ≡ Refused (LargeKey (record { 0 = 0 }))
   by-large (large h) g = refl
   by-large (present h r) g = absurd (omega (arith, h))
@@ -147,14 +159,6 @@ module _ (σ : Store) (ok : Accepted σ) (k : ℕ) where
   by-large (no-keys d h) g = absurd (omega (arith, d .wanted .small))
   by-large (no-segments d h r) g = absurd (omega (arith, d .wanted .small))
   by-large (merged d h r) g = absurd (omega (arith, d .wanted .small))
-
-  large-by : {a : Inserted} {p : Pos} → Outcome σ k a → a ≡ Refused (LargeKey p) → keyLimit ≤ k
-  large-by (large h) e = h
-  large-by (present h r) e = absurd (let z : _≡_ {A = ℕ} 0 1 = cc in omega arith)
-  large-by (buffered w r) e = absurd (let z : _≡_ {A = ℕ} 0 1 = cc in omega arith)
-  large-by (no-keys d h) e = absurd (let z : _≡_ {A = ℕ} 0 1 = cc in omega arith)
-  large-by (no-segments d h r) e = absurd (let z : _≡_ {A = ℕ} 0 1 = cc in omega arith)
-  large-by (merged d h r) e = absurd (let z : _≡_ {A = ℕ} 0 1 = cc in omega arith)
 
   by-present : {a : Inserted} → Outcome σ k a → In k (reads σ) → a ≡ Refused Present
   by-present (large h) r = absurd (omega (arith, h, in-below 0 keyLimit k (reads σ) (reads-rise σ ok) r))
@@ -164,47 +168,23 @@ module _ (σ : Store) (ok : Accepted σ) (k : ℕ) where
   by-present (no-segments d h g) r = absurd (d .wanted .other r)
   by-present (merged d h g) r = absurd (d .wanted .other r)
 
-  present-by : {a : Inserted} → Outcome σ k a → a ≡ Refused Present → In k (reads σ)
-  present-by (large h) e = absurd (let z : _≡_ {A = ℕ} 0 1 = cc in omega arith)
-  present-by (present h r) e = r
-  present-by (buffered w r) e = absurd (let z : _≡_ {A = ℕ} 0 1 = cc in omega arith)
-  present-by (no-keys d h) e = absurd (let z : _≡_ {A = ℕ} 0 1 = cc in omega arith)
-  present-by (no-segments d h r) e = absurd (let z : _≡_ {A = ℕ} 0 1 = cc in omega arith)
-  present-by (merged d h r) e = absurd (let z : _≡_ {A = ℕ} 0 1 = cc in omega arith)
-
-  by-wrong : {a : Inserted} {j : ℕ} → Outcome σ k a → a ≡ Refused (StoreWrong j) → ⊥
-  by-wrong (large h) e = absurd (let z : _≡_ {A = ℕ} 0 1 = cc in omega arith)
-  by-wrong (present h r) e = absurd (let z : _≡_ {A = ℕ} 0 1 = cc in omega arith)
-  by-wrong (buffered w r) e = absurd (let z : _≡_ {A = ℕ} 0 1 = cc in omega arith)
-  by-wrong (no-keys d h) e = absurd (let z : _≡_ {A = ℕ} 0 1 = cc in omega arith)
-  by-wrong (no-segments d h r) e = absurd (let z : _≡_ {A = ℕ} 0 1 = cc in omega arith)
-  by-wrong (merged d h r) e = absurd (let z : _≡_ {A = ℕ} 0 1 = cc in omega arith)
-
-  by-limits : {a : Inserted} → Outcome σ k a → a ≡ Refused OutOfLimits → ⊥
-  by-limits (large h) e = absurd (let z : _≡_ {A = ℕ} 0 1 = cc in omega arith)
-  by-limits (present h r) e = absurd (let z : _≡_ {A = ℕ} 0 1 = cc in omega arith)
-  by-limits (buffered w r) e = absurd (let z : _≡_ {A = ℕ} 0 1 = cc in omega arith)
-  by-limits (no-keys d h) e = absurd (let z : _≡_ {A = ℕ} 0 1 = cc in omega arith)
-  by-limits (no-segments d h r) e = absurd (let z : _≡_ {A = ℕ} 0 1 = cc in omega arith)
-  by-limits (merged d h r) e = absurd (let z : _≡_ {A = ℕ} 0 1 = cc in omega arith)
-
   -- 2 is given exactly where k is no key.
   pub large-refused : keyLimit ≤ k → insertOf σ k ≡ Refused (LargeKey (record { 0 = 0 }))
   large-refused h = by-large outcome h
 
   pub refused-large : {p : Pos} → insertOf σ k ≡ Refused (LargeKey p) → keyLimit ≤ k
-  refused-large e = large-by outcome e
+  refused-large e = subst (λ (a : Inserted). Says σ k a) e says
 
   -- "already there": 5 is given exactly where k is one of the reads.
   pub read-refused : In k (reads σ) → insertOf σ k ≡ Refused Present
   read-refused r = by-present outcome r
 
   pub refused-read : insertOf σ k ≡ Refused Present → In k (reads σ)
-  refused-read e = present-by outcome e
+  refused-read e = subst (λ (a : Inserted). Says σ k a) e says
 
   -- It says neither that the store is wrong (9) nor that it is out of its limits (1).
   pub never-wrong : {j : ℕ} → insertOf σ k ≡ Refused (StoreWrong j) → ⊥
-  never-wrong e = by-wrong outcome e
+  never-wrong e = subst (λ (a : Inserted). Says σ k a) e says
 
   pub never-limits : insertOf σ k ≡ Refused OutOfLimits → ⊥
-  never-limits e = by-limits outcome e
+  never-limits e = subst (λ (a : Inserted). Says σ k a) e says

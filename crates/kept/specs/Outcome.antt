@@ -4,7 +4,8 @@ use Prim.Native.Nat.{ℕ, _+_, _-_, _≤_, _<_}
 use Rattle.lists.specs.Rising.{In}
 use Rattle.lists.specs.Merge.{placeOf}
 use Rattle.terms.specs.Limits.{keyLimit}
-use Rattle.terms.specs.declared.Refusal.the-variants.{LargeKey, Present, KeyRoom, SegmentRoom}
+use Rattle.terms.specs.declared.Refusal.{Refusal}
+use Rattle.terms.specs.declared.Refusal.the-variants.{Limits, LargeKey, NotRising, Backwards, Present, KeyRoom, SegmentRoom, OutRoom, StoreWrong, Malformed, BadLine}
 use Rattle.table.specs.Store.{Store}
 use Rattle.table.specs.Limits.{keyRoom, segmentRoom}
 use Rattle.table.specs.Entries.{entryIn, usedIn}
@@ -39,3 +40,34 @@ pub data Outcome (σ : Store) (k : ℕ) : Inserted → Type 0 where
   merged :
       {i : ℕ} → Due σ k i → σ .n + σ .b ≤ keyRoom (σ .keys) → σ .s - 1 + piecesOf σ i k ≤ segmentRoom (σ .b) (σ .table) (σ .buffers)
       → Outcome σ k (Merged i (piecesOf σ i k) (σ .n + σ .b) (σ .s - 1 + piecesOf σ i k))
+
+-- ---- what each answer says of an accepted store: no refusal but 2, 5, 6 and 7 is given
+
+-- a merge is due, and the keys, or the segments, would not fit
+pub record Crowded (σ : Store) (k : ℕ) : Type 0 where
+  pub segment : ℕ
+  pub due : Due σ k segment
+  pub over : keyRoom (σ .keys) < σ .n + σ .b
+
+pub record Cramped (σ : Store) (k : ℕ) : Type 0 where
+  pub segment : ℕ
+  pub due : Due σ k segment
+  pub over : segmentRoom (σ .b) (σ .table) (σ .buffers) < σ .s - 1 + piecesOf σ segment k
+
+abbrev pub Because : Store → ℕ → Refusal → Type 0
+Because σ k Limits = ⊥
+Because σ k (LargeKey p) = keyLimit ≤ k
+Because σ k (NotRising p) = ⊥
+Because σ k Backwards = ⊥
+Because σ k Present = In k (reads σ)
+Because σ k KeyRoom = Crowded σ k
+Because σ k SegmentRoom = Cramped σ k
+Because σ k OutRoom = ⊥
+Because σ k (StoreWrong i) = ⊥
+Because σ k (Malformed at) = ⊥
+Because σ k (BadLine l) = ⊥
+
+abbrev pub Says : Store → ℕ → Inserted → Type 0
+Says σ k (Buffered i j) = Wanted σ k i
+Says σ k (Merged i t n s) = Due σ k i
+Says σ k (Refused r) = Because σ k r

@@ -1,13 +1,12 @@
 -- An accepted store shows its own segments, and they are in order.
 -- Assumes nothing.
-use mathlib.Core.Path.{_≡_, refl, sym, ap, _∙_}
+use mathlib.Core.Path.{_≡_, refl, sym, ap, subst, _∙_}
 use mathlib.Core.List.{List, [], _∷_, _++_, append-assoc}
 use Prim.Native.Nat.{ℕ, zero, suc, _+_, _-_, _*_, _≤_, _<_}
 use native.Mathlib.Nat.{mul-le-mul-right, add-zero}
 use native.Mathlib.Omega.{arith}
 use lib.ListN.{length, getD, take, drop, length-append, length-drop, take-append-drop}
 use lib.Seq.{getD-drop, length-take-le, drop-drop}
-use borrow.Author.Tests.{lt-ltb, le-ltb}
 use Rattle.lists.specs.Rising.{Up, In}
 use Rattle.lists.proofs.Rising.{up-within}
 use Rattle.terms.specs.Limits.{keyLimit, keyOf}
@@ -17,6 +16,7 @@ use Rattle.table.specs.Reads.{mergedIn}
 use Rattle.line.specs.Meaning.{Near}
 use Rattle.judge.specs.Rules.{Rules, Accepted}
 use Rattle.judge_laws.proofs.Bridge.{run-length, run-at}
+use Rattle.judge_laws.proofs.Covered.{end-next, end-last}
 use Rattle.judge_laws.proofs.Segments.{held-from, held-below, held-key}
 use Rattle.segments.specs.Seg.{Close, Fair, ceil, allOf, Chain, runsOf}
 use Rattle.shown.specs.Shows.{segOf, segsFrom, segments, Shown}
@@ -138,13 +138,11 @@ module _ (σ : Store) (ok : Accepted σ) where
     unfolding segOf
     used-of = rw (length-used i h) refl
 
-    end-next : suc i < σ .s → entryIn σ i .end .0 ≡ entryIn σ (suc i) .base .0
-    unfolding entryOf
-    end-next g = let n : i + 1 ≡ suc i = omega arith in simp (lt-ltb (i + 1) (σ .s) (omega arith)) (ap (λ (m : ℕ). getD (σ .table) (5 * m + 1) 0) n)
+    next-base : suc i < σ .s → entryIn σ i .end .0 ≡ entryIn σ (suc i) .base .0
+    next-base g = let n : i + 1 ≡ suc i = omega arith in subst (λ (m : ℕ). entryIn σ i .end .0 ≡ entryIn σ m .base .0) n (end-next σ i (omega arith))
 
-    end-last : suc i ≡ σ .s → entryIn σ i .end .0 ≡ σ .n
-    unfolding entryOf
-    end-last g = simp (le-ltb (i + 1) (σ .s) (omega arith))
+    last-end : suc i ≡ σ .s → entryIn σ i .end .0 ≡ σ .n
+    last-end g = end-last σ i (omega arith)
 
     past : (at : ℕ) → at ≡ entryIn σ i .base .0 → at + length (segOf σ i .keys) ≡ entryIn σ i .end .0
     unfolding segOf
@@ -162,8 +160,8 @@ module _ (σ : Store) (ok : Accepted σ) where
         slots = tt;
       }
   shown-from (suc c) i at e here last =
-      step (omega arith) (shown-from c (suc i) (at + length (segOf σ i .keys)) (omega arith) (λ g. past i (omega arith) at (here (omega arith)) ∙ end-next i (omega arith) g)
-      (λ g. past i (omega arith) at (here (omega arith)) ∙ end-last i (omega arith) g))
+      step (omega arith) (shown-from c (suc i) (at + length (segOf σ i .keys)) (omega arith) (λ g. past i (omega arith) at (here (omega arith)) ∙ next-base i (omega arith) g)
+      (λ g. past i (omega arith) at (here (omega arith)) ∙ last-end i (omega arith) g))
     where
       step : i < σ .s → Shown σ (suc i) (at + length (segOf σ i .keys)) (segsFrom σ (suc i) c) → Shown σ i at (segsFrom σ i (suc c))
       step h r =
