@@ -1,15 +1,15 @@
 -- What build leaves is accepted by the check, and reads as the keys that were given; so the plain list of "all reads loaded and taken in" starts as these.
 -- Assumes nothing.
-use mathlib.Core.Path.{_≡_, refl, sym, ap, subst, _∙_}
+use mathlib.Core.Path.{_≡_, sym, ap, subst, _∙_}
 use mathlib.Core.List.{List, [], _∷_, _++_, append-nil}
-use Prim.Native.Nat.{ℕ, _+_, _-_, _*_, _≤_, _<_}
+use Prim.Native.Nat.{ℕ, _+_, _-_, _*_, _<_}
 use native.Mathlib.Omega.{arith}
 use lib.ListN.{length, take, drop, length-append, length-drop, take-append-drop}
 use lib.Seq.{length-take-le}
 use Rattle.lists.specs.Rising.{Up}
 use Rattle.terms.specs.Limits.{keyLimit}
 use Rattle.table.specs.Store.{Store, storeOf}
-use Rattle.table.specs.Limits.{Limits, segmentRoom}
+use Rattle.table.specs.Limits.{Limits}
 use Rattle.table.specs.Reads.{reads}
 use Rattle.table.proofs.Limits.{Holds as Roomy, room-holds}
 use Rattle.judge.specs.Rules.{Accepted}
@@ -20,12 +20,12 @@ use Rattle.cone.specs.Rule.{cut}
 use Rattle.cone.specs.Keys.{Cuttable}
 use Rattle.cutting.specs.Rows.{rowsOf}
 use Rattle.cutting.proofs.Rows.{rows-length}
-use Rattle.build.specs.declared.Judged.{Judged}
-use Rattle.build.specs.declared.Judged.the-variants.{Clear, Faulty}
+use Rattle.build.specs.declared.Built.{Built}
 use Rattle.build.specs.declared.Built.the-variants.{Made}
-use Rattle.build.specs.Build.{judgedOf, answerBy, builtOf, tableBy}
-use Rattle.build.proofs.Faults.{all-good, good-cuttable}
-use Rattle.build.proofs.Laws.{Takes, Cleared, cleared}
+use Rattle.build.specs.Build.{Takes, builtOf, tableBy}
+use Rattle.build.proofs.Faults.{good-cuttable}
+use Rattle.build_laws.specs.Builds.{Builds, Accepted as Taken}
+use Rattle.build_laws.proofs.Meaning.{answers, made-accepted}
 use Rattle.segments.specs.Seg.{Seg, Chain, runsOf, Cutting}
 use Rattle.segments.specs.Cuts.{cutSegs}
 use Rattle.segments.proofs.Insert.{bare-chain, bare-reads}
@@ -43,14 +43,6 @@ bare-whole e b lo hi ks [] c u = tt
 bare-whole e b lo hi ks (y ∷ ys) c u =
     subst (λ (l : List Seg). Chain e b lo hi l) (append-nil (y ∷ ys)) (bare-chain e b hi [] y ys lo (c .fair) (c .bare) (subst (λ (l : List ℕ). Up lo hi l) (sym (c .whole)) u) tt)
 
-record Answered (a : Judged) (c s : ℕ) : Type 0 where
-  clear : a ≡ Clear
-  count : c ≡ s
-
-made-clear : (a : Judged) (c s : ℕ) → answerBy a c ≡ Made s → Answered a c s
-made-clear Clear c s e = record { clear = refl; count = cc }
-made-clear (Faulty r) c s e = absurd (let z : _≡_ {A = ℕ} 0 1 = cc in omega arith)
-
 -- the store after a build that answered s
 abbrev pub builtStore : ℕ → ℕ → ℕ → ℕ → List ℕ → List ℕ → List ℕ → Store
 builtStore e b n s keys table buffers = storeOf e b n s keys (tableBy (Made s) e n keys table) buffers
@@ -65,24 +57,20 @@ module _ (e b n s : ℕ) (keys table buffers : List ℕ) (made : builtOf e b n k
   abbrev σ : Store
   σ = builtStore e b n s keys table buffers
 
-  answered : Answered (judgedOf e b n keys table buffers) (length (cut e ks)) s
-  unfolding builtOf
-  answered = made-clear (judgedOf e b n keys table buffers) (length (cut e ks)) s made
-
-  facts : Cleared e b n keys table buffers
-  facts = cleared e b n keys table buffers (answered .clear)
+  facts : Taken e b n keys table buffers s
+  facts = made-accepted e b n keys table buffers s (subst (λ (a : Built). Builds e b n keys table buffers a) made (answers e b n keys table buffers))
 
   takes : Takes e b n keys
-  takes = facts .takes
+  takes = facts .sound .takes
 
   count : length (cut e ks) ≡ s
-  count = answered .count
+  count = sym (facts .counts)
 
   long : length ks ≡ n
   long = length-take-le n keys (takes .held)
 
   cuttable : Cuttable e ks
-  cuttable = good-cuttable e keys n (takes .sized .e-most) (takes .sized .n-most) (takes .held) (all-good keys n (facts .none))
+  cuttable = good-cuttable e keys n (takes .sized .e-most) (takes .sized .n-most) (takes .held) (facts .sound .good)
 
   is-cut : Cutting e b ks new
   is-cut = cutting e b ks (omega (arith, takes .sized .b-least)) cuttable
@@ -91,7 +79,7 @@ module _ (e b n s : ℕ) (keys table buffers : List ℕ) (made : builtOf e b n k
   pieces = length-segs-by ks (cut e ks) ∙ count
 
   room : Roomy b s table buffers
-  room = room-holds b s table buffers (omega (arith, takes .sized .b-least)) (subst (λ (m : ℕ). m ≤ segmentRoom b table buffers) count (facts .room))
+  room = room-holds b s table buffers (omega (arith, takes .sized .b-least)) (facts .room)
 
   some-new : 0 < s
   some-new = some new (is-cut .whole) pieces
