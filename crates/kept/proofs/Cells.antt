@@ -47,12 +47,12 @@ slots-join b (x ∷ xs) ys cells s t =
     (s .0, slots-join b xs ys (drop b cells) (s .1) (rw (e, ← drop-drop (length xs * b) b cells) at t))
 
 -- each segment holds at most b keys
-abbrev pub Holds : ℕ → List Seg → Type 0
-Holds b [] = Unit
-Holds b (x ∷ xs) = (length (x .used) ≤ b) × Holds b xs
+abbrev pub HeldBy : ℕ → List Seg → Type 0
+HeldBy b [] = Unit
+HeldBy b (x ∷ xs) = (length (x .used) ≤ b) × HeldBy b xs
 
 -- the front of the cells is enough
-pub slots-front : (b m : ℕ) (xs : List Seg) (cells r : List ℕ) → Holds b xs → length xs * b ≤ m → m ≤ length cells → Slots b xs cells → Slots b xs (take m cells ++ r)
+pub slots-front : (b m : ℕ) (xs : List Seg) (cells r : List ℕ) → HeldBy b xs → length xs * b ≤ m → m ≤ length cells → Slots b xs cells → Slots b xs (take m cells ++ r)
 slots-front b m [] cells r h a z s = tt
 slots-front b m (x ∷ xs) cells r h a z s =
     let e : suc (length xs) * b ≡ b + length xs * b = omega arith in
@@ -89,7 +89,7 @@ module _ (b h : ℕ) (from onto r : List ℕ) (l : length (take h from) ≡ h) (
   pub drop-lay : drop b (take h from ++ (part ++ r)) ≡ r
   drop-lay = sym (ap (drop b) (append-assoc (take h from) part r)) ∙ drop-at (take h from ++ part) r b (omega (arith, length-append (take h from) part, length-part))
 
-pub laid-slots : (b : ℕ) (xs : List Seg) (from onto : List ℕ) → Holds b xs → length xs * b ≤ length onto → Slots b xs from → Slots b xs (laid b (helds xs) from onto)
+pub laid-slots : (b : ℕ) (xs : List Seg) (from onto : List ℕ) → HeldBy b xs → length xs * b ≤ length onto → Slots b xs from → Slots b xs (laid b (helds xs) from onto)
 unfolding laid
 laid-slots b [] from onto h room s = tt
 laid-slots b (x ∷ xs) from onto h room s =
@@ -102,7 +102,7 @@ laid-slots b (x ∷ xs) from onto h room s =
       rw (drop-lay b c from onto r l (h .0) (omega (arith, n))) (laid-slots b xs (drop b from) (drop b onto) (h .1) (omega (arith, n, length-drop b onto)) (s .1)),
     )
 
-pub length-laid : (b : ℕ) (xs : List Seg) (from onto : List ℕ) → Holds b xs → length xs * b ≤ length onto → Slots b xs from → length (laid b (helds xs) from onto) ≡ length onto
+pub length-laid : (b : ℕ) (xs : List Seg) (from onto : List ℕ) → HeldBy b xs → length xs * b ≤ length onto → Slots b xs from → length (laid b (helds xs) from onto) ≡ length onto
 unfolding laid
 length-laid b [] from onto h room s = refl
 length-laid b (x ∷ xs) from onto h room s =

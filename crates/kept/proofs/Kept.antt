@@ -36,19 +36,19 @@ use Rattle.insert.specs.Cells.{putSlots, mergedKeys, mergedTable, mergedSlots, 
 use Rattle.kept.specs.Outcome.{Wanted, Outcome, large, present, no-keys, no-segments, buffered as put, merged}
 use Rattle.kept.specs.Recut.{Recut, Leaves}
 use Rattle.kept.specs.After.{afterOne, listBy}
-use Rattle.kept.proofs.Cells.{Holds, length-rows}
+use Rattle.kept.proofs.Cells.{HeldBy, length-rows}
 use Rattle.kept.proofs.Splices.{buffered-shown, length-put, merged-shown, length-slots}
 use Rattle.kept.proofs.Outcome.{outcome, other-here, list-is, list-rises, list-length}
 
-chain-holds : (e b lo hi : ℕ) (xs : List Seg) → Chain e b lo hi xs → Holds b xs
+chain-holds : (e b lo hi : ℕ) (xs : List Seg) → Chain e b lo hi xs → HeldBy b xs
 chain-holds e b lo hi [] c = tt
 chain-holds e b lo hi (x ∷ xs) c = (omega (arith, c .0 .held), chain-holds e b (ceil hi xs) hi xs (c .1 .1))
 
-holds-left : (b : ℕ) (xs ys : List Seg) → Holds b (xs ++ ys) → Holds b xs
+holds-left : (b : ℕ) (xs ys : List Seg) → HeldBy b (xs ++ ys) → HeldBy b xs
 holds-left b [] ys h = tt
 holds-left b (x ∷ xs) ys h = (h .0, holds-left b xs ys (h .1))
 
-holds-right : (b : ℕ) (xs ys : List Seg) → Holds b (xs ++ ys) → Holds b ys
+holds-right : (b : ℕ) (xs ys : List Seg) → HeldBy b (xs ++ ys) → HeldBy b ys
 holds-right b [] ys h = h
 holds-right b (x ∷ xs) ys h = holds-right b xs ys (h .1)
 
@@ -82,10 +82,10 @@ module _ (σ : Store) (ok : Accepted σ) (k i : ℕ) (wanted : Wanted σ k i) wh
   length-pre : length pre ≡ i
   length-pre = length-segs σ i 0
 
-  holds : Holds (σ .b) (pre ++ (x ∷ post))
+  holds : HeldBy (σ .b) (pre ++ (x ∷ post))
   holds = chain-holds (σ .e) (σ .b) 0 keyLimit (pre ++ (x ∷ post)) chain
 
-  holds-pre : Holds (σ .b) pre
+  holds-pre : HeldBy (σ .b) pre
   holds-pre = holds-left (σ .b) pre (x ∷ post) holds
 
   below-from : (c : ℕ) → i + suc c ≡ σ .s → k < ceil keyLimit (segsFrom σ (suc i) c)
@@ -190,7 +190,7 @@ module _ (σ : Store) (ok : Accepted σ) (k i : ℕ) (wanted : Wanted σ k i) wh
     used-full : length (x .used) + 1 ≡ σ .b
     used-full = omega (arith, used-length)
 
-    holds-post : Holds (σ .b) post
+    holds-post : HeldBy (σ .b) post
     holds-post = holds-right (σ .b) pre (x ∷ post) holds .1
 
     entries : rowsOf (entryIn σ i .base .0) (cut (σ .e) (mergedWith σ i k)) ≡ rows (entryIn σ i .base .0) new

@@ -1,22 +1,22 @@
 -- Insert on an accepted store: which answer it gives, and when. It never says that the store is wrong, and refuses by 5 exactly where the plain
 -- list has the key.
 -- Assumes nothing.
-use mathlib.Core.Path.{_≡_, refl, sym, subst, _∙_}
+use mathlib.Core.Path.{_≡_, refl, sym, ap, subst, _∙_}
 use mathlib.Core.Bool.{true, false}
 use mathlib.Core.List.{List}
 use Prim.Native.Nat.{ℕ, suc, _+_, _-_, _≤_, _<_}
 use native.Mathlib.Omega.{arith}
 use lib.Dec.{ltb, leb}
 use lib.ListN.{length}
-use borrow.Author.Tests.{ltb-true, ltb-false, lt-ltb, leb-true, leb-false, le-leb}
+use borrow.Author.Tests.{ltb-true, ltb-false, lt-ltb, le-ltb, leb-true, leb-false, le-leb, lt-leb}
 use Rattle.lists.specs.Rising.{Up, In, upOf}
-use Rattle.lists.specs.Merge.{insertSorted}
+use Rattle.lists.specs.Merge.{insertSorted, placeOf}
 use Rattle.lists.proofs.Tests.{either, clash, true-both}
 use Rattle.lists.proofs.Rising.{true-up, in-below}
 use Rattle.lists.proofs.Merging.{merged-split, in-merge-left, merge-insert, insert-up, length-merge, length-insert}
 use Rattle.terms.specs.Limits.{keyLimit, keyOf}
 use Rattle.terms.specs.declared.Pos.{Pos}
-use Rattle.terms.specs.declared.Refusal.the-variants.{Limits as OutOfLimits, LargeKey, Present, StoreWrong}
+use Rattle.terms.specs.declared.Refusal.the-variants.{Limits as OutOfLimits, LargeKey, Present, KeyRoom, SegmentRoom, StoreWrong}
 use Rattle.table.specs.Store.{Store}
 use Rattle.table.specs.Limits.{keyRoom, segmentRoom}
 use Rattle.table.specs.Entries.{entryIn, runIn, usedIn}
@@ -25,7 +25,7 @@ use Rattle.table.specs.Damaged.{Sound}
 use Rattle.table.specs.Reads.{mergedIn, reads}
 use Rattle.table.proofs.Limits.{true-limited}
 use Rattle.table.proofs.Damages.{false-damaged}
-use Rattle.table.proofs.Chosen.{chosen-is}
+use Rattle.table.proofs.Chosen.{chosen-is, one-choice}
 use Rattle.scan.specs.declared.Found.the-variants.{Nothing}
 use Rattle.scan.specs.Scan.{failsOf}
 use Rattle.scan.proofs.Meaning.{fails-scanned, one-answer}
@@ -33,14 +33,16 @@ use Rattle.judge.specs.Rules.{Rules, Accepted}
 use Rattle.judge_laws.proofs.Segments.{reads-rise}
 use Rattle.judge_laws.proofs.Whereabouts.{where-read}
 use Rattle.lookup.specs.declared.Looked.{Looked}
+use Rattle.lookup.specs.declared.Looked.the-variants.{Absent}
 use Rattle.lookup.specs.Lookup.{searchedOf, segmentOf, lookupOf}
+use Rattle.lookup.proofs.Laws.{answered}
 use Rattle.lookup_laws.specs.Answers.{Answers, in-run, in-buffer, absent, refused-1, refused-2, refused-9}
 use Rattle.lookup_laws.proofs.Meaning.{answers}
 use Rattle.shown.specs.Found.{Finds}
 use Rattle.shown.proofs.Views.{length-run, length-used}
-use Rattle.shown.proofs.Found.{found-read, absent-unread}
+use Rattle.shown.proofs.Found.{found-read, absent-unread, unread-absent}
 use Rattle.insert.specs.declared.Inserted.{Inserted}
-use Rattle.insert.specs.declared.Inserted.the-variants.{Refused}
+use Rattle.insert.specs.declared.Inserted.the-variants.{Buffered, Merged, Refused}
 use Rattle.insert.specs.Insert.{mergedWith, piecesOf, roomFor, laterOk, mergeFor, placedFor, unlessFound, segmentFor, insertOf}
 use Rattle.kept.specs.Outcome.{Wanted, Due, Says, Outcome, large, present, buffered, no-keys, no-segments, merged}
 
@@ -131,7 +133,7 @@ module _ (σ : Store) (ok : Accepted σ) (k : ℕ) where
         simp (false-damaged _ _ _ (here .sound), used-up)
         (subst (λ (a : Looked). Outcome σ k (unlessFound a (placedFor σ i k))) looked-is (by-answer (answers σ k) refl))
 
-  -- On an accepted store insert's answer is one of these, each exactly when it says.
+  -- On an accepted store insert's answer has one of these reasons.
   pub outcome : Outcome σ k (insertOf σ k)
   unfolding insertOf
   outcome =
@@ -188,3 +190,61 @@ module _ (σ : Store) (ok : Accepted σ) (k : ℕ) where
 
   pub never-limits : insertOf σ k ≡ Refused OutOfLimits → ⊥
   never-limits e = subst (λ (a : Inserted). Says σ k a) e says
+
+  -- ---- and no other answer has such a reason
+
+  module _ (i : ℕ) (wanted : Wanted σ k i) where
+    chosen-here : i ≡ chosenOf (σ .table) (σ .s) k
+    chosen-here = one-choice (σ .table) k (σ .s) i (chosenOf (σ .table) (σ .s) k) (wanted .chosen) (chosen-is (σ .table) k (σ .s) (ok .limits .s-least))
+
+    at-i : Rules σ i
+    at-i = ok .rules i (wanted .chosen .inside)
+
+    absent-here : searchedOf (σ .e) (σ .b) (σ .keys) (σ .buffers) (entryIn σ i) i (keyOf k) ≡ Absent
+    absent-here =
+        answered σ k refl (true-limited σ (ok .limits)) refl (lt-ltb _ _ (wanted .small)) chosen-here refl refl (false-damaged _ _ _ (at-i .sound)) refl
+        ∙ unread-absent σ ok k (wanted .small) (wanted .other)
+
+    used-here : upOf 0 keyLimit (usedIn σ i) ≡ true
+    used-here = true-up 0 keyLimit (usedIn σ i) (merged-split 0 keyLimit (runIn σ i) (usedIn σ i) (at-i .rising) .right)
+
+    segment-placed : segmentFor σ i k ≡ placedFor σ i k
+    unfolding segmentFor
+    segment-placed = simp (false-damaged _ _ _ (at-i .sound), used-here, absent-here)
+
+    wanted-placed : insertOf σ k ≡ placedFor σ i k
+    unfolding insertOf
+    wanted-placed =
+        simp (true-limited σ (ok .limits), lt-ltb _ _ (wanted .small)) (ap (λ (j : ℕ). segmentFor σ j k) (sym chosen-here) ∙ segment-placed)
+
+    buffered-is : entryIn σ i .held + 1 < σ .b → Buffered i (placeOf k (usedIn σ i)) ≡ placedFor σ i k
+    unfolding placedFor
+    buffered-is h = simp (lt-ltb _ _ h)
+
+    module _ (full : entryIn σ i .held + 1 ≡ σ .b) where
+      due-placed : placedFor σ i k ≡ roomFor σ i k
+      unfolding placedFor mergeFor
+      due-placed =
+          simp (le-ltb (entryIn σ i .held + 1) (σ .b) (omega arith), true-up 0 keyLimit (mergedWith σ i k) (list-rises i wanted), later-none i wanted)
+
+      no-keys-is : keyRoom (σ .keys) < σ .n + σ .b → Refused KeyRoom ≡ roomFor σ i k
+      unfolding roomFor
+      no-keys-is h = simp (lt-leb _ _ h)
+
+      module _ (fits : σ .n + σ .b ≤ keyRoom (σ .keys)) where
+        no-segments-is : segmentRoom (σ .b) (σ .table) (σ .buffers) < σ .s - 1 + piecesOf σ i k → Refused SegmentRoom ≡ roomFor σ i k
+        unfolding roomFor
+        no-segments-is h = simp (le-leb _ _ fits, lt-leb _ _ h)
+
+        merged-is : σ .s - 1 + piecesOf σ i k ≤ segmentRoom (σ .b) (σ .table) (σ .buffers) → Merged i (piecesOf σ i k) (σ .n + σ .b) (σ .s - 1 + piecesOf σ i k) ≡ roomFor σ i k
+        unfolding roomFor
+        merged-is h = simp (le-leb _ _ fits, le-leb _ _ h)
+
+  -- An answer that has such a reason is insert's.
+  pub outcome-only : {a : Inserted} → Outcome σ k a → a ≡ insertOf σ k
+  outcome-only (large h) = sym (large-refused h)
+  outcome-only (present h r) = sym (read-refused r)
+  outcome-only (buffered {i} w h) = buffered-is i w h ∙ sym (wanted-placed i w)
+  outcome-only (no-keys {i} d h) = no-keys-is i (d .wanted) (d .full) h ∙ sym (wanted-placed i (d .wanted) ∙ due-placed i (d .wanted) (d .full))
+  outcome-only (no-segments {i} d h r) = no-segments-is i (d .wanted) (d .full) h r ∙ sym (wanted-placed i (d .wanted) ∙ due-placed i (d .wanted) (d .full))
+  outcome-only (merged {i} d h r) = merged-is i (d .wanted) (d .full) h r ∙ sym (wanted-placed i (d .wanted) ∙ due-placed i (d .wanted) (d .full))

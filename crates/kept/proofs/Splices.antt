@@ -24,7 +24,7 @@ use Rattle.shown.proofs.Shown.{entryBy, shown-next, shown-entry, shown-segment}
 use Rattle.insert.specs.declared.Inserted.the-variants.{Buffered, Merged}
 use Rattle.insert.specs.Insert.{mergedWith}
 use Rattle.insert.specs.Cells.{putSlots, raised, heldOf, laid, mergedKeys, mergedTable, mergedSlots, storeBy}
-use Rattle.kept.proofs.Cells.{rows-append, length-rows, raised-rows, slots-split, slots-join, Holds, slots-front, bare-slots, helds, held-rows, laid-slots, length-laid}
+use Rattle.kept.proofs.Cells.{rows-append, length-rows, raised-rows, slots-split, slots-join, HeldBy, slots-front, bare-slots, helds, held-rows, laid-slots, length-laid}
 
 shown-skip : (σ : Store) (pre ys : List Seg) (i at : ℕ) → Shown σ i at (pre ++ ys) → Shown σ (i + length pre) (at + length (runsOf pre)) ys
 shown-skip σ [] ys i at w =
@@ -85,7 +85,7 @@ module _ (σ : Store) (i k : ℕ) (pre post : List Seg) (x : Seg) (n : length pr
   slots-pre : Slots (σ .b) pre (σ .buffers)
   slots-pre = let e : 0 * σ .b ≡ 0 = omega arith in slots-split (σ .b) pre (x ∷ post) (σ .buffers) (rw e at (w .slots)) .0
 
-  module _ (limits : Limits σ) (holds : Holds (σ .b) pre) where
+  module _ (limits : Limits σ) (holds : HeldBy (σ .b) pre) where
     -- ---- a buffered insert
 
     module _ (room : length (x .used) + 1 ≤ σ .b) where
@@ -153,7 +153,8 @@ module _ (σ : Store) (i k : ℕ) (pre post : List Seg) (x : Seg) (n : length pr
 
     -- ---- a merge
 
-    module _ (new : List Seg) (t : ℕ) (pieces : length new ≡ t) (bare : Bare new) (whole : runsOf new ≡ mergedWith σ i k) (entries : rowsOf (entryIn σ i .base .0) (cut (σ .e) (mergedWith σ i k)) ≡ rows (entryIn σ i .base .0) new) (full : length (x .used) + 1 ≡ σ .b) (held : Holds (σ .b) post)
+    module _ (new : List Seg) (t : ℕ) (pieces : length new ≡ t) (bare : Bare new) (whole : runsOf new ≡ mergedWith σ i k)
+        (entries : rowsOf (entryIn σ i .base .0) (cut (σ .e) (mergedWith σ i k)) ≡ rows (entryIn σ i .base .0) new) (full : length (x .used) + 1 ≡ σ .b) (held : HeldBy (σ .b) post)
         (room : (σ .s - 1 + t) * σ .b ≤ length (σ .buffers)) where
       list-is : mergedWith σ i k ≡ mergedList k x
       unfolding segOf

@@ -26,6 +26,7 @@ pub record Due (σ : Store) (k i : ℕ) : Type 0 where
   pub wanted : Wanted σ k i
   pub full : entryIn σ i .held + 1 ≡ σ .b
 
+-- the reason of each answer: the key, then what the plain list says, then the room
 pub data Outcome (σ : Store) (k : ℕ) : Inserted → Type 0 where
   -- 2: "a key given is not below 2^44"
   large : keyLimit ≤ k → Outcome σ k (Refused (LargeKey (record { 0 = 0 })))
