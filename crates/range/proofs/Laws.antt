@@ -54,7 +54,7 @@ use Rattle.range.specs.declared.Ranged.{Ranged}
 use Rattle.range.specs.declared.Ranged.the-variants.{Listed, Refused}
 use Rattle.range.specs.Stretch.{floorOf, lastOf, fineOf, keysIn, countedBy, judgedOf, followsOf, walkedOf, seenOf}
 use Rattle.range.specs.Range.{stretchedOf, chosenRangeOf, rangeOf, outBy, keysFrom}
-use Rattle.range.specs.Asks.{Countable, Few, Walking, Walkable, Seeable, Stretch, Judging, Puttable, Placeable, Fillable, Filling}
+use Rattle.range.specs.Asks.{Countable, Few, Walking, Walkable, Seeable, Stretch, Judging, Puttable, Placeable, Fillable, Filling, segmentMost}
 use Rattle.range.proofs.Stretches.{above-floor, keys-more, keys-none, keys-first, before-next, before-first, merged-few, walked-none, walked-falls, walked-on, Passed, seen-rose, seen-fell, fine-sound}
 
 -- ---- within, follows, tally, put_key
@@ -247,7 +247,7 @@ module _ (σ : Store) (low high a to : ℕ) where
           judge-on asked =
               let l : length (keysIn σ low high a (i + 1)) ≡ length (keysIn σ low high a i) + length (between low high (mergedIn σ i))
               = ap length (keys-more σ low high a i (so .from)) ∙ length-append (keysIn σ low high a i) (between low high (mergedIn σ i)) in
-              let few : length (mergedIn σ i) ≤ 32832 = merged-few σ i (asked .limits) (damaged-false _ _ _ (passed .sound)) in
+              let few : length (mergedIn σ i) ≤ segmentMost = merged-few σ i (asked .limits) (damaged-false _ _ _ (passed .sound)) in
               record {
                 from = omega (arith, so .from);
                 inside = omega (arith, so .from);

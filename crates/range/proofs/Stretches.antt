@@ -10,9 +10,10 @@ use lib.Dec.{leb, ltb}
 use lib.ListN.{length, drop, length-take}
 use borrow.Author.Tests.{ltb-true, ltb-false, le-leb, lt-leb}
 use Rattle.lists.specs.Tests.{both}
-use Rattle.lists.specs.Rising.{upOf}
+use Rattle.lists.specs.Rising.{Up, upOf}
 use Rattle.lists.specs.Between.{between}
-use Rattle.lists.proofs.Tests.{either, clash}
+use Rattle.lists.proofs.Tests.{either, clash, both-true}
+use Rattle.lists.proofs.Rising.{up-true}
 use Rattle.lists.proofs.Merging.{length-merge}
 use Rattle.lists.proofs.Between.{between-append, length-between-cons}
 use Rattle.terms.specs.Limits.{keyLimit}
@@ -26,6 +27,7 @@ use Rattle.judge.specs.declared.Bound.{Bound}
 use Rattle.judge.specs.declared.Bound.the-variants.{Free, By}
 use Rattle.judge.specs.Check.{aboveOf}
 use Rattle.range.specs.declared.Walked.the-variants.{Rose, Fell}
+use Rattle.range.specs.Asks.{segmentMost}
 use Rattle.range.specs.Stretch.{floorOf, lastOf, beforeIn, fineOf, keysIn, followsOf, walkedOf, seenOf}
 
 -- ---- the key before
@@ -88,7 +90,7 @@ module _ (σ : Store) where
   before-first a = sym (ap (lastOf Free) (stretch-none a (a - a) (omega arith)))
 
   -- a segment that is not damaged has few keys
-  pub merged-few : (i : ℕ) → Limits σ → Sound (σ .b) (σ .n) (entryIn σ i) → length (mergedIn σ i) ≤ 32832
+  pub merged-few : (i : ℕ) → Limits σ → Sound (σ .b) (σ .n) (entryIn σ i) → length (mergedIn σ i) ≤ segmentMost
   merged-few i limits sound =
       let p : _ = length-take (entryIn σ i .end .0 - entryIn σ i .base .0) (drop (entryIn σ i .base .0) (σ .keys)) in
       let q : _ = length-take (entryIn σ i .held) (drop (i * σ .b) (σ .buffers)) in
@@ -151,3 +153,10 @@ pub fine-sound : (σ : Store) (a i : ℕ) → fineOf σ a i ≡ true → Sound (
 unfolding fineOf
 fine-sound σ a i h =
     either (damagedOf (σ .b) (σ .n) (entryIn σ i)) (λ t. clash (sym (rw t at h))) (λ t. damaged-false (σ .b) (σ .n) (entryIn σ i) t)
+
+-- and its merged keys rise from the key before them on
+pub fine-up : (σ : Store) (a i : ℕ) → fineOf σ a i ≡ true → Up (floorOf (beforeIn σ a i)) keyLimit (mergedIn σ i)
+unfolding fineOf
+fine-up σ a i h =
+    up-true (floorOf (beforeIn σ a i)) keyLimit (mergedIn σ i)
+    (both-true (not (damagedOf (σ .b) (σ .n) (entryIn σ i))) (upOf (floorOf (beforeIn σ a i)) keyLimit (mergedIn σ i)) h .1)

@@ -6,6 +6,7 @@ use lib.ListN.{length}
 use Rattle.lists.specs.Merge.{merge}
 use Rattle.lists.specs.Between.{between}
 use Rattle.lists.specs.Over.{Space, Writing}
+use Rattle.terms.specs.Limits.{bMost, nMost, sMost}
 use Rattle.terms.specs.declared.Entry.{Entry}
 use Rattle.table.specs.Store.{Store}
 use Rattle.table.specs.Limits.{Limits}
@@ -29,9 +30,13 @@ pub record Countable (seen : ℕ) : Type 0 where
 pub record Few (seen : ℕ) (run used : List ℕ) : Type 0 where
   pub few : seen + (length run + length used) < 2 ^ 64
 
--- keys seen in at most 8,192 segments, each with at most 32,768 keys in its run and 64 in its slots
+-- as many keys as a segment that is not damaged can have
+abbrev pub segmentMost : ℕ
+segmentMost = nMost + bMost
+
+-- keys seen in segments of the stretch: there are at most 8,192 of them
 pub record Tallied (seen : ℕ) : Type 0 where
-  pub few : seen ≤ 2 ^ 32
+  pub few : seen ≤ segmentMost * sMost
 
 -- the walk over a segment has come to m, past the key `last`: what is left decides
 pub record Walking (low high : ℕ) (before : Bound) (seen : ℕ) (run used : List ℕ) (last : Bound) (count : ℕ) (m : Cursor) : Type 0 where
@@ -42,7 +47,7 @@ pub record Walking (low high : ℕ) (before : Bound) (seen : ℕ) (run used : Li
 pub record Walkable (b : ℕ) (keys buffers : List ℕ) (x : Entry) (i seen : ℕ) : Type 0 where
   pub lent : Lent b keys buffers x i
   pub tallied : Tallied seen
-  pub held-few : x .held ≤ 64
+  pub held-few : x .held ≤ bMost
 
 -- the limits hold, and i is a segment
 pub record Seeable (σ : Store) (i seen : ℕ) : Type 0 where
@@ -62,7 +67,7 @@ pub record Judging (σ : Store) (low high a to i : ℕ) (before : Bound) (seen :
   pub inside : i - a ≤ to - a
   pub last : before ≡ beforeIn σ a i
   pub counts : seen ≡ length (keysIn σ low high a i)
-  pub few : seen ≤ 32832 * (i - a)
+  pub few : seen ≤ segmentMost * (i - a)
   pub so-far : failsOf (fineOf σ a) a (to - a) ≡ failsOf (fineOf σ a) i (to - i)
 
 -- ---- writing
