@@ -18,7 +18,7 @@ use Rattle.lists.specs.Merge.{merge}
 use Rattle.lists.specs.Between.{between}
 use Rattle.lists.specs.Over.{over, Space, Writing}
 use Rattle.lists.proofs.Merging.{length-merge}
-use Rattle.lists.proofs.Between.{between-one, between-none, between-cons, between-short}
+use Rattle.lists.proofs.Listed.{one-listed, one-left, between-cons, between-short}
 use Rattle.lists.proofs.Over.{set-over, writing-start, writing-step, writing-end, writing-place}
 use Rattle.terms.specs.Limits.{keyLimit}
 use Rattle.terms.specs.declared.Entry.{Entry}
@@ -80,7 +80,7 @@ pub ruleset follows-cases = (follows-not, follows-last)
 module _ (low high k : ℕ) {w : Bool} (is : w ≡ both (leb low k) (leb k high)) where
   module _ (yes : w ≡ true) where
     one : between low high (k ∷ []) ≡ k ∷ []
-    one = between-one low high k (sym is ∙ yes)
+    one = one-listed low high k (sym is ∙ yes)
 
     pub tally-more : (seen : ℕ) → seen + 1 ≡ seen + length (between low high (k ∷ []))
     tally-more seen = ap (λ (l : List ℕ). seen + length l) (sym one)
@@ -93,7 +93,7 @@ module _ (low high k : ℕ) {w : Bool} (is : w ≡ both (leb low k) (leb k high)
 
   module _ (no-more : w ≡ false) where
     none : between low high (k ∷ []) ≡ []
-    none = between-none low high k (sym is ∙ no-more)
+    none = one-left low high k (sym is ∙ no-more)
 
     pub tally-same : (seen : ℕ) → seen ≡ seen + length (between low high (k ∷ []))
     tally-same seen = sym (ap (λ (l : List ℕ). seen + length l) none ∙ add-zero seen)

@@ -15,7 +15,8 @@ use Rattle.lists.specs.Between.{between}
 use Rattle.lists.proofs.Tests.{either, clash, both-true}
 use Rattle.lists.proofs.Rising.{up-true}
 use Rattle.lists.proofs.Merging.{length-merge}
-use Rattle.lists.proofs.Between.{between-append, length-between-cons}
+use Rattle.lists.proofs.Between.{between-append}
+use Rattle.lists.proofs.Listed.{length-between-cons}
 use Rattle.terms.specs.Limits.{keyLimit}
 use Rattle.table.specs.Store.{Store}
 use Rattle.table.specs.Limits.{Limits}

@@ -30,6 +30,7 @@ firstIn σ low = chosenOf (σ .table) (σ .s) low
 abbrev pub pastIn : Store → ℕ → ℕ
 pastIn σ high = suc (chosenOf (σ .table) (σ .s) high)
 
+-- the stretch between the two, ends included
 unfoldable pub chosenRangeOf : Store → ℕ → ℕ → ℕ → Ranged
 chosenRangeOf σ low high room = stretchedOf σ low high (firstIn σ low) (pastIn σ high) room
 

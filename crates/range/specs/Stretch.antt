@@ -48,6 +48,7 @@ fineOf σ a i = both (not (damagedOf (σ .b) (σ .n) (entryIn σ i))) (upOf (flo
 abbrev pub keysIn : Store → ℕ → ℕ → ℕ → ℕ → List ℕ
 keysIn σ low high a to = between low high (stretchOf σ a (to - a))
 
+-- by what a scan of the segments found
 abbrev pub countedBy : ℕ → Found → Judged
 countedBy m (At i) = WrongAt i
 countedBy m Nothing = Counts m
