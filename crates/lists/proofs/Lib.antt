@@ -4,3 +4,4 @@ pub mod Rising
 pub mod Merging
 pub mod Over
 pub mod Between
+pub mod Listed
