@@ -3,7 +3,10 @@ use terms::Refusal;
 
 pub enum Inserted {
     // into the buffer of a segment, at this slot
-    Buffered { segment: usize, slot: usize },
+    Buffered {
+        segment: usize,
+        slot: usize,
+    },
     // the segment was merged and cut into `pieces`; n and s are the new counts
     Merged {
         segment: usize,
