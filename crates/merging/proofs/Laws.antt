@@ -15,7 +15,7 @@ use borrow.Author.Tests.{leb-true, le-leb, lt-leb, ltb-true, lt-ltb}
 use Rattle.lists.specs.Tests.{both}
 use Rattle.lists.specs.Rising.{upOf}
 use Rattle.lists.specs.Merge.{merge, insertSorted}
-use Rattle.lists.proofs.Tests.{both-true}
+use Rattle.lists.proofs.Tests.{both-true, either}
 use Rattle.lists.proofs.Lists.{drop-head, drop-next}
 use Rattle.lists.proofs.Merging.{length-merge, length-insert}
 use Rattle.terms.specs.Limits.{keyLimit}
@@ -27,9 +27,11 @@ use Rattle.order.proofs.Rest.{next-key, next-end, key-all}
 use Rattle.cone.specs.declared.Cone.{Cone}
 use Rattle.cone.specs.declared.Step.{Step}
 use Rattle.cone.specs.declared.Step.the-variants.{Joined, Apart}
+use Rattle.cone.specs.Rule.{cut}
 use Rattle.cone.specs.Step.{Ready, startOf, grown, lets, stepOf}
 use Rattle.cone.proofs.Laws.{step-joined}
 use Rattle.cone.proofs.Walk.{Walk, Next as NextKey, walk-start, walk-ready, walk-joined, walk-apart, walk-counts}
+use Rattle.merging.specs.declared.Cutting.{Cutting}
 use Rattle.merging.specs.declared.Cutting.the-variants.{Pieces, Unruly}
 use Rattle.merging.specs.Judged.{afterOf, piecesOf, Judgeable, Begun}
 
@@ -255,3 +257,23 @@ module _ (e : ℕ) (run used : List ℕ) (k : ℕ) where
   count-small closed c m w = record { fits = omega (arith, w .walk .closed, w .walk .counted, w .walk .inside, few-keys (w .asked), w .asked .few) }
 
 pub ruleset count-cases = (count-start, count-small, rest-less, count-end, count-fallen, count-ready, count-joined, count-apart)
+
+-- ---- what the answer says
+
+pub cut-rises : (e : ℕ) (ks : List ℕ) {t : ℕ} → piecesOf e ks ≡ Pieces t → (upOf 0 keyLimit ks ≡ true) × (t ≡ length (cut e ks))
+unfolding piecesOf
+cut-rises e ks {t} =
+    either (upOf 0 keyLimit ks)
+    (λ u. simp u (λ q. (refl, sym (ap count q))))
+    (λ u. simp u (λ q. absurd (let z : _≡_ {A = ℕ} 0 1 = cc in omega arith)))
+  where
+    count : Cutting → ℕ
+    count (Pieces t) = t
+    count Unruly = 0
+
+pub unruly-falls : (e : ℕ) (ks : List ℕ) → piecesOf e ks ≡ Unruly → upOf 0 keyLimit ks ≡ false
+unfolding piecesOf
+unruly-falls e ks =
+    either (upOf 0 keyLimit ks)
+    (λ u. simp u (λ q. absurd (let z : _≡_ {A = ℕ} 0 1 = cc in omega arith)))
+    (λ u. simp u (λ q. refl))
