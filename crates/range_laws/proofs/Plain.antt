@@ -5,7 +5,7 @@ use mathlib.Core.Path.{_≡_, refl, sym, ap, _∙_}
 use mathlib.Core.List.{List, _++_}
 use Prim.Native.Nat.{ℕ, suc, _+_, _-_, _≤_, _<_}
 use native.Mathlib.Omega.{arith}
-use lib.ListN.{length, drop}
+use lib.ListN.{length}
 use lib.Seq.{drop-at}
 use Rattle.lists.specs.Rising.{Up}
 use Rattle.lists.specs.Between.{between}
@@ -35,8 +35,8 @@ module _ (σ : Store) (ok : Accepted σ) where
       let s : σ .s ≡ a + (c + last) = omega arith in
       let f : 0 + a ≡ a = omega arith in
       let whole : reads σ ≡ stretchOf σ 0 a ++ (stretchOf σ a c ++ stretchOf σ (a + c) last)
-          = ap (λ (m : ℕ). stretchOf σ 0 m) s ∙ stretch-split σ a (c + last) 0 ∙ ap (λ (m : ℕ). stretchOf σ 0 a ++ stretchOf σ m (c + last)) f
-          ∙ ap (λ (l : List ℕ). stretchOf σ 0 a ++ l) (stretch-split σ c last a) in
+      = ap (λ (m : ℕ). stretchOf σ 0 m) s ∙ stretch-split σ a (c + last) 0 ∙ ap (λ (m : ℕ). stretchOf σ 0 a ++ stretchOf σ m (c + last)) f
+      ∙ ap (λ (l : List ℕ). stretchOf σ 0 a ++ l) (stretch-split σ c last a) in
       let u : Up 0 keyLimit (stretchOf σ 0 a ++ (stretchOf σ a c ++ stretchOf σ (a + c) last)) = rw whole at (reads-rise σ ok) in
       up-left 0 keyLimit (stretchOf σ a c) (stretchOf σ (a + c) last) (up-right 0 keyLimit (stretchOf σ 0 a) (stretchOf σ a c ++ stretchOf σ (a + c) last) u)
 
