@@ -3,3 +3,4 @@ pub mod Lists
 pub mod Rising
 pub mod Merging
 pub mod Over
+pub mod Between

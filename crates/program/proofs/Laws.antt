@@ -35,6 +35,7 @@ made-room e b n keys table buffers s =
   where
     count : ℕ
     count = length (cut e (take n keys))
+
     found : (f : Found) → answerBy (foundOf f keys (roomedOf count (segmentRoom b table buffers))) count ≡ Made s → s ≤ segmentRoom b table buffers
     found (At p) = λ q. absurd (let z : _≡_ {A = ℕ} 0 1 = cc in omega arith)
     found Nothing =
