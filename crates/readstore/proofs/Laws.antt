@@ -20,13 +20,17 @@ use Rattle.lookup.specs.Lookup.{lookupOf}
 use Rattle.range.specs.declared.Ranged.{Ranged}
 use Rattle.range.specs.declared.Ranged.the-variants.{Listed, Refused as NotListed}
 use Rattle.range.specs.Range.{rangeOf, outBy as rangedOut, keysFrom}
+use Rattle.insert.specs.declared.Inserted.{Inserted}
+use Rattle.insert.specs.declared.Inserted.the-variants.{Buffered, Merged, Refused as NotInserted}
+use Rattle.insert.specs.Insert.{insertOf}
+use Rattle.insert.specs.Cells.{keysBy as insertedKeys, tableBy as insertedTable, buffersBy as insertedBuffers}
 use Rattle.image_write.specs.declared.Written.{Written}
 use Rattle.image_write.specs.declared.Written.the-variants.{Bytes, Refused as NotWritten}
 use Rattle.image_write.specs.Writing.{writeOf, outBy}
 use Rattle.image_read.specs.declared.Loaded.{Loaded}
 use Rattle.image_read.specs.declared.Loaded.the-variants.{Store, Refused as NotLoaded}
 use Rattle.image_read.specs.Loading.{loadOf, keysBy, tableBy as loadedTable, buffersBy}
-use Rattle.readstore.specs.Numbers.{eight, refusalNumbers, builtNumbers, checkedNumbers, lookedNumbers, rangedNumbers, writtenNumbers, loadedNumbers}
+use Rattle.readstore.specs.Numbers.{eight, refusalNumbers, builtNumbers, checkedNumbers, lookedNumbers, rangedNumbers, insertedNumbers, writtenNumbers, loadedNumbers}
 
 pub refusal-are : (r : Refusal) {m p q : ℕ} → m ≡ numberOf r → p ≡ placeOf r → q ≡ p → eight m q 0 0 0 0 0 0 ≡ refusalNumbers r
 unfolding refusalNumbers
@@ -86,6 +90,21 @@ module _ {a : Ranged} where
 
 pub ruleset ranged-cases = (ranged-listed, ranged-refused)
 
+module _ {a : Inserted} where
+  pub inserted-buffered : {i j v w : ℕ} → a ≡ Buffered i j → v ≡ i → w ≡ j → eight 0 0 1 v w 0 0 0 ≡ insertedNumbers a
+  unfolding insertedNumbers
+  inserted-buffered e f g = cc
+
+  pub inserted-merged : {i t n s p q r u : ℕ} → a ≡ Merged i t n s → p ≡ i → q ≡ t → r ≡ n → u ≡ s → eight 0 0 2 p q r u 0 ≡ insertedNumbers a
+  unfolding insertedNumbers
+  inserted-merged e f g h k = cc
+
+  pub inserted-refused : {r : Refusal} {l : List ℕ} → a ≡ NotInserted r → l ≡ refusalNumbers r → l ≡ insertedNumbers a
+  unfolding insertedNumbers
+  inserted-refused e f = cc
+
+pub ruleset inserted-cases = (inserted-buffered, inserted-merged, inserted-refused)
+
 module _ {a : Written} where
   pub written-bytes : {z w : ℕ} → a ≡ Bytes z → w ≡ z → eight 0 0 0 w 0 0 0 0 ≡ writtenNumbers a
   unfolding writtenNumbers
@@ -134,12 +153,30 @@ module _ {e b n s f c m t : ℕ} (keys table buffers : List ℕ) (pe : f ≡ e) 
         → after ≡ rangedOut (keysFrom (storeOf e b n s keys table buffers) low high) (rangeOf (storeOf e b n s keys table buffers) low high (length out)) out
     range-written p = rw (← pe, ← pb, ← pn, ← ps) (p ∙ ap (λ (x : Ranged). rangedOut (keysFrom (storeOf f c m t keys table buffers) low high) x out) call)
 
+  module _ (k : ℕ) {a : Inserted} (call : a ≡ insertOf (storeOf f c m t keys table buffers) k) where
+    pub insert-answered : {l : List ℕ} → l ≡ insertedNumbers a → l ≡ insertedNumbers (insertOf (storeOf e b n s keys table buffers) k)
+    insert-answered p = p ∙ ap insertedNumbers (rw (← pe, ← pb, ← pn, ← ps) call)
+
+    pub insert-keys : {after : List ℕ} → after ≡ insertedKeys a (storeOf f c m t keys table buffers) k
+        → after ≡ insertedKeys (insertOf (storeOf e b n s keys table buffers) k) (storeOf e b n s keys table buffers) k
+    insert-keys p = rw (← pe, ← pb, ← pn, ← ps) (p ∙ ap (λ (x : Inserted). insertedKeys x (storeOf f c m t keys table buffers) k) call)
+
+    pub insert-table : {after : List ℕ} → after ≡ insertedTable a (storeOf f c m t keys table buffers) k
+        → after ≡ insertedTable (insertOf (storeOf e b n s keys table buffers) k) (storeOf e b n s keys table buffers) k
+    insert-table p = rw (← pe, ← pb, ← pn, ← ps) (p ∙ ap (λ (x : Inserted). insertedTable x (storeOf f c m t keys table buffers) k) call)
+
+    pub insert-buffers : {after : List ℕ} → after ≡ insertedBuffers a (storeOf f c m t keys table buffers) k
+        → after ≡ insertedBuffers (insertOf (storeOf e b n s keys table buffers) k) (storeOf e b n s keys table buffers) k
+    insert-buffers p = rw (← pe, ← pb, ← pn, ← ps) (p ∙ ap (λ (x : Inserted). insertedBuffers x (storeOf f c m t keys table buffers) k) call)
+
   module _ (out : List ℕ) {a : Written} (call : a ≡ writeOf (storeOf f c m t keys table buffers) (length out)) where
     pub write-answered : {l : List ℕ} → l ≡ writtenNumbers a → l ≡ writtenNumbers (writeOf (storeOf e b n s keys table buffers) (length out))
     write-answered p = p ∙ ap writtenNumbers (rw (← pe, ← pb, ← pn, ← ps) call)
 
     pub write-written : {after : List ℕ} → after ≡ outBy a (storeOf f c m t keys table buffers) out → after ≡ outBy (writeOf (storeOf e b n s keys table buffers) (length out)) (storeOf e b n s keys table buffers) out
     write-written p = rw (← pe, ← pb, ← pn, ← ps) (p ∙ ap (λ (x : Written). outBy x (storeOf f c m t keys table buffers) out) call)
+
+pub ruleset insert-calls = (insert-answered, insert-keys, insert-table, insert-buffers)
 
 pub ruleset range-calls = (range-answered, range-written)
 

@@ -11,6 +11,8 @@ use Rattle.lookup.specs.declared.Looked.{Looked}
 use Rattle.lookup.specs.declared.Looked.the-variants.{InRun, InBuffer, Absent, Refused as NotLooked}
 use Rattle.range.specs.declared.Ranged.{Ranged}
 use Rattle.range.specs.declared.Ranged.the-variants.{Listed, Refused as NotListed}
+use Rattle.insert.specs.declared.Inserted.{Inserted}
+use Rattle.insert.specs.declared.Inserted.the-variants.{Buffered, Merged, Refused as NotInserted}
 use Rattle.image_write.specs.declared.Written.{Written}
 use Rattle.image_write.specs.declared.Written.the-variants.{Bytes, Refused as NotWritten}
 use Rattle.image_read.specs.declared.Loaded.{Loaded}
@@ -39,6 +41,11 @@ lookedNumbers (NotLooked r) = refusalNumbers r
 unfoldable pub rangedNumbers : Ranged → List ℕ
 rangedNumbers (Listed m) = eight 0 0 0 m 0 0 0 0
 rangedNumbers (NotListed r) = refusalNumbers r
+
+unfoldable pub insertedNumbers : Inserted → List ℕ
+insertedNumbers (Buffered i j) = eight 0 0 1 i j 0 0 0
+insertedNumbers (Merged i t n s) = eight 0 0 2 i t n s 0
+insertedNumbers (NotInserted r) = refusalNumbers r
 
 unfoldable pub writtenNumbers : Written → List ℕ
 writtenNumbers (Bytes z) = eight 0 0 0 z 0 0 0 0

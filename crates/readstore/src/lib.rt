@@ -3,6 +3,7 @@
 use build::Built;
 use image_read::Loaded;
 use image_write::Written;
+use insert::Inserted;
 use judge::Checked;
 use lookup::Looked;
 use range::Ranged;
@@ -14,9 +15,11 @@ ghost use Rattle.build.specs.Build.{builtOf, tableBy};
 ghost use Rattle.judge.specs.Check.{checkOf};
 ghost use Rattle.lookup.specs.Lookup.{lookupOf};
 ghost use Rattle.range.specs.Range.{rangeOf, outBy as rangedOut, keysFrom};
+ghost use Rattle.insert.specs.Insert.{insertOf};
+ghost use Rattle.insert.specs.Cells.{keysBy as insertedKeys, tableBy as insertedTable, buffersBy as insertedBuffers};
 ghost use Rattle.image_write.specs.Writing.{writeOf, outBy};
 ghost use Rattle.image_read.specs.Loading.{loadOf, keysBy, tableBy as loadedTable, buffersBy};
-ghost use Rattle.readstore.specs.Numbers.{refusalNumbers, builtNumbers, checkedNumbers, lookedNumbers, rangedNumbers, writtenNumbers, loadedNumbers};
+ghost use Rattle.readstore.specs.Numbers.{refusalNumbers, builtNumbers, checkedNumbers, lookedNumbers, rangedNumbers, insertedNumbers, writtenNumbers, loadedNumbers};
 
 fn size(x: u64) -> usize
     ensures { λ r. ⌜ r ≡ x ⌝ }
@@ -86,6 +89,31 @@ fn ranged_numbers(a: Ranged) -> [u64; 8]
             [0, 0, 0, many, 0, 0, 0, 0]
         }
         Ranged::Refused(r) => refusal_numbers(r),
+    }
+}
+
+fn inserted_numbers(a: Inserted) -> [u64; 8]
+    ensures { λ r. ⌜ r ≡ insertedNumbers a ⌝ }
+{
+    match a {
+        Inserted::Buffered { segment, slot } => {
+            let i = word(segment);
+            let j = word(slot);
+            [0, 0, 1, i, j, 0, 0, 0]
+        }
+        Inserted::Merged {
+            segment,
+            pieces,
+            n,
+            s,
+        } => {
+            let i = word(segment);
+            let t = word(pieces);
+            let keys = word(n);
+            let segments = word(s);
+            [0, 0, 2, i, t, keys, segments, 0]
+        }
+        Inserted::Refused(r) => refusal_numbers(r),
     }
 }
 
@@ -189,8 +217,41 @@ pub extern "C" fn readstore_range(
     ensures answered { λ _. ⌜ now (answer .exit) ≡ rangedNumbers (rangeOf (storeOf e b n s (now (keys .entry)) (now (table .entry)) (now (buffers .entry))) low high (length (now (out .entry)))) ⌝ }
     ensures written { λ _. ⌜ now (out .exit) ≡ rangedOut (keysFrom (storeOf e b n s (now (keys .entry)) (now (table .entry)) (now (buffers .entry))) low high) (rangeOf (storeOf e b n s (now (keys .entry)) (now (table .entry)) (now (buffers .entry))) low high (length (now (out .entry)))) (now (out .entry)) ⌝ }
 {
-    let a = range::range(size(e), size(b), size(n), size(s), keys, table, buffers, low, high, out);
+    let a = range::range(
+        size(e),
+        size(b),
+        size(n),
+        size(s),
+        keys,
+        table,
+        buffers,
+        low,
+        high,
+        out,
+    );
     *answer = ranged_numbers(a);
+}
+
+// k is taken in. [2] is 1 buffered, [3] the segment, [4] the slot; 2 merged, [3] the segment, [4] into how many, [5] the new n, [6] the new s.
+#[no_mangle]
+pub extern "C" fn readstore_insert(
+    keys: &mut [u64],
+    table: &mut [u64],
+    buffers: &mut [u64],
+    e: u64,
+    b: u64,
+    n: u64,
+    s: u64,
+    k: u64,
+    answer: &mut [u64; 8],
+)
+    ensures answered { λ _. ⌜ now (answer .exit) ≡ insertedNumbers (insertOf (storeOf e b n s (now (keys .entry)) (now (table .entry)) (now (buffers .entry))) k) ⌝ }
+    ensures keys { λ _. ⌜ now (keys .exit) ≡ insertedKeys (insertOf (storeOf e b n s (now (keys .entry)) (now (table .entry)) (now (buffers .entry))) k) (storeOf e b n s (now (keys .entry)) (now (table .entry)) (now (buffers .entry))) k ⌝ }
+    ensures table { λ _. ⌜ now (table .exit) ≡ insertedTable (insertOf (storeOf e b n s (now (keys .entry)) (now (table .entry)) (now (buffers .entry))) k) (storeOf e b n s (now (keys .entry)) (now (table .entry)) (now (buffers .entry))) k ⌝ }
+    ensures buffers { λ _. ⌜ now (buffers .exit) ≡ insertedBuffers (insertOf (storeOf e b n s (now (keys .entry)) (now (table .entry)) (now (buffers .entry))) k) (storeOf e b n s (now (keys .entry)) (now (table .entry)) (now (buffers .entry))) k ⌝ }
+{
+    let a = insert::insert(size(e), size(b), size(n), size(s), keys, table, buffers, k);
+    *answer = inserted_numbers(a);
 }
 
 // The stored form of the store, from the out slice's start. [3] is its length in bytes.
