@@ -16,12 +16,12 @@ insert-spec =
     (λ c. search needs)  -- same-length
     (λ c. search needs)  -- same-length-2
     (λ c. search needs)  -- same-length-3
-    (λ c. (insert-answer _ _ _ _ _ _ _ _ (c .before .before .before .before .before .before .before .before .before .before .decide .ensures) (c .before .before .before .before .before .before .before .before .decided .given .1), (search needs, (search (insert-held, needs), search (insert-put, needs)))))  -- returns
+    (λ c. (search (insert-answer, c .before .before .before .before .before .before .before .before .before .before .decide .ensures, c .before .before .before .before .before .before .before .before .decided .given .1), (search needs, (search (insert-held, needs), search (insert-put, needs)))))  -- returns
     (λ c. search needs)  -- same-length-4
     (λ c. search needs)  -- same-length-5
     (λ c. search needs)  -- same-length-6
-    (λ c. (insert-answer _ _ _ _ _ _ _ _ (c .before .before .before .before .before .before .before .before .before .before .before .before .before .decide .ensures) (c .before .before .before .before .before .before .before .before .before .before .before .decided2 .given .1), (search needs, (search needs, search needs))))  -- returns-2
+    (λ c. (search (insert-answer, c .before .before .before .before .before .before .before .before .before .before .before .before .before .decide .ensures, c .before .before .before .before .before .before .before .before .before .before .before .decided2 .given .1), (search needs, (search needs, search needs))))  -- returns-2
     (λ c. search needs)  -- same-length-7
     (λ c. search needs)  -- same-length-8
     (λ c. search needs)  -- same-length-9
-    (λ c. (insert-answer _ _ _ _ _ _ _ _ (c .before .before .before .decide .ensures) (c .before .decided3 .given .1), (search needs, (search needs, search needs)))))
+    (λ c. (search (insert-answer, c .before .before .before .decide .ensures, c .before .decided3 .given .1), (search needs, (search needs, search needs)))))
