@@ -382,8 +382,8 @@ pub fn insert(
     ensures table { λ r. ⌜ now (table .exit) ≡ tableBy r (storeOf e b n s (now (keys .entry)) (now (table .entry)) (now (buffers .entry))) k ⌝ }
     ensures buffers { λ r. ⌜ now (buffers .exit) ≡ buffersBy r (storeOf e b n s (now (keys .entry)) (now (table .entry)) (now (buffers .entry))) k ⌝ }
 {
-    let a = decide(e, b, n, s, keys, table, buffers, k);
-    match a {
+    let decided = decide(e, b, n, s, keys, table, buffers, k);
+    match decided {
         Inserted::Buffered { segment, slot } => {
             hold(b, table, buffers, segment, slot, k);
             Inserted::Buffered { segment, slot }
@@ -395,12 +395,7 @@ pub fn insert(
             s: segments_now,
         } => {
             join(e, b, n, s, keys, table, buffers, segment, pieces, k);
-            Inserted::Merged {
-                segment,
-                pieces,
-                n: keys_now,
-                s: segments_now,
-            }
+            decided
         }
         Inserted::Refused(r) => Inserted::Refused(r),
     }

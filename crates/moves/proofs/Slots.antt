@@ -2,8 +2,8 @@
 -- Assumes nothing.
 use mathlib.Core.Path.{_≡_, refl, sym, ap, _∙_}
 use mathlib.Core.List.{List, [], _∷_, _++_, append-assoc}
-use Prim.Native.Nat.{ℕ, zero, suc, _+_, _-_, _*_, _≤_, _<_}
-use native.Mathlib.Nat.{mul-le-mul-right, zero-mul}
+use Prim.Native.Nat.{ℕ, zero, suc, _+_, _-_, _*_, _≤_, _<_, zero-le}
+use native.Mathlib.Nat.{le-refl, mul-le-mul-right, zero-mul}
 use native.Mathlib.Omega.{arith}
 use mir.Syntax.{w64}
 use mir.Val.{Fits}
@@ -96,8 +96,8 @@ module _ (xs tail : List ℕ) (b count by : ℕ) where
       pub lift-index : Fits w64 ((c - 1) * b)
       lift-index = record { fits = omega (arith, w .asked .small, apart, below-all) }
 
-      pub lift-asks : Movable slots ((c - 1) * b) (getD tail (5 * (c - 1) + 4) 0) (by * b)
-      lift-asks = record { fits = omega (arith, few-used, room-here, apart, w .same) }
+      pub lift-asks : (m : ℕ) → m ≤ getD tail (5 * (c - 1) + 4) 0 → Movable slots ((c - 1) * b) m (by * b)
+      lift-asks m l = record { fits = omega (arith, few-used, room-here, apart, w .same) }
 
       pub lift-turn : {s : List ℕ} → s ≡ shiftUp ((c - 1) * b) (getD tail (5 * (c - 1) + 4) 0) (by * b) slots → Lifting xs tail b count by s (c - 1)
       unfolding shiftUp laid
@@ -117,7 +117,7 @@ module _ (xs tail : List ℕ) (b count by : ℕ) where
           record {
             asked = w .asked;
             more = omega (arith, w .more);
-            same = ap length is ∙ length-shift slots F v (by * b) (lift-asks .fits) ∙ w .same;
+            same = ap length is ∙ length-shift slots F v (by * b) (lift-asks v (le-refl v) .fits) ∙ w .same;
             is =
                 is ∙ ap (λ (m : List ℕ). take (F + by * b) m ++ (take v (drop F m) ++ drop (F + by * b + v) m)) now-is
                 ∙ rw (e, q, drop-drop b F xs, drop-drop b D xs)
@@ -131,4 +131,4 @@ module _ (xs tail : List ℕ) (b count by : ℕ) where
         let e : by + 0 ≡ by = omega arith in
         w .is ∙ rw (z, e, zero-mul b) refl
 
-pub ruleset lift-cases = (lift-still, lift-start, lift-index, lift-asks, lift-turn, lift-end)
+pub ruleset lift-cases = (lift-still, lift-start, lift-index, lift-asks, lift-turn, lift-end, le-refl, zero-le)

@@ -20,10 +20,10 @@ add-bases-spec =
     (λ c. search (bases-cases, needs))  -- loop-holds
     (λ c. search (bases-cases, needs))  -- mul-at
     (λ c. search (bases-cases, needs))  -- add-at
+    (λ c. search (bases-cases, needs))  -- mul-base
+    (λ c. search (bases-cases, needs))  -- slice-read-base
+    (λ c. search (bases-cases, needs))  -- add-grown
     (λ c. search (bases-cases, needs))  -- mul-t
-    (λ c. search (bases-cases, needs))  -- slice-read-t
-    (λ c. search (bases-cases, needs))  -- add-t
-    (λ c. search (bases-cases, needs))  -- mul-t-2
     (λ c. search (bases-cases, needs))  -- slice-write-t
     (λ c. search (bases-cases, needs))  -- add-i
     (λ c. search (bases-cases, needs))  -- loop-less
