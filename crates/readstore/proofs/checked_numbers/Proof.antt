@@ -7,8 +7,8 @@ pub checked-numbers-spec : {M : Type 1} → statement M
 checked-numbers-spec =
     tie.close
     (tie.spec
-    (λ c. search (checked-cases, needs)) -- enum-told
-    (λ c. search (checked-cases, needs)) -- enum-known-a
-    (λ c κs. search (checked-cases, needs)) -- refusal-numbers-requires
-    (λ c. search (checked-cases, needs)) -- returns
+    (λ c. search (checked-cases, needs))  -- enum-told
+    (λ c. search (checked-cases, needs))  -- enum-known-a
+    (λ c κs. search (checked-cases, needs))  -- refusal-numbers-requires
+    (λ c. search (checked-cases, needs))  -- returns
     (λ c. search (checked-cases, needs)))

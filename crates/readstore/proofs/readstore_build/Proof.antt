@@ -7,10 +7,10 @@ pub readstore-build-spec : {M : Type 1} → statement M
 readstore-build-spec =
     tie.close
     (tie.spec
-    (λ c κs. search (build-calls, needs)) -- size-requires
-    (λ c κs. search (build-calls, needs)) -- size-requires-2
-    (λ c κs. search (build-calls, needs)) -- size-requires-3
-    (λ c κs. search (build-calls, needs)) -- build-requires
-    (λ c κs. search (build-calls, needs)) -- built-numbers-requires
-    (λ c. search (build-calls, needs)) -- same-length
+    (λ c κs. search (build-calls, needs))  -- size-requires
+    (λ c κs. search (build-calls, needs))  -- size-requires-2
+    (λ c κs. search (build-calls, needs))  -- size-requires-3
+    (λ c κs. search (build-calls, needs))  -- build-requires
+    (λ c κs. search (build-calls, needs))  -- built-numbers-requires
+    (λ c. search (build-calls, needs))  -- same-length
     (λ c. search (build-calls, needs)))

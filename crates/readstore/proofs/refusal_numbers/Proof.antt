@@ -7,7 +7,7 @@ pub refusal-numbers-spec : {M : Type 1} → statement M
 refusal-numbers-spec =
     tie.close
     (tie.spec
-    (λ c κs. search (refusal-cases, needs)) -- number-requires
-    (λ c κs. search (refusal-cases, needs)) -- place-requires
-    (λ c κs. search (refusal-cases, needs)) -- word-requires
+    (λ c κs. search (refusal-cases, needs))  -- number-requires
+    (λ c κs. search (refusal-cases, needs))  -- place-requires
+    (λ c κs. search (refusal-cases, needs))  -- word-requires
     (λ c. search (refusal-cases, needs)))
