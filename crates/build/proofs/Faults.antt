@@ -12,22 +12,18 @@ use lib.Seq.{getD-take, length-take-le}
 use borrow.Author.Tests.{ltb-true, lt-ltb, le-ltb}
 use Rattle.lists.specs.Tests.{imp}
 use Rattle.lists.specs.Rising.{Up}
-use Rattle.lists.proofs.Tests.{both-true, true-both, imp-true, true-imp, either}
+use Rattle.lists.proofs.Tests.{both-true, true-both, imp-true, true-imp, either, is-false, clash}
 use Rattle.lists.proofs.Rising.{neighbours-up}
 use Rattle.terms.specs.Limits.{keyLimit, eMost, nMost}
 use Rattle.scan.specs.declared.Found.the-variants.{At, Nothing}
 use Rattle.scan.specs.Scan.{failsOf}
 use Rattle.scan.specs.Meaning.{Lowest, Scanned}
 use Rattle.scan.proofs.Laws.{fail-here, fail-on, fail-end}
-use Rattle.scan.proofs.Meaning.{fails-scanned}
+use Rattle.scan.proofs.Meaning.{fails-scanned, one-answer}
 use Rattle.cone.specs.Keys.{Cuttable}
-use Rattle.build.specs.Build.{goodOf, faultOf}
+use Rattle.build.specs.Build.{goodOf, Good, faultOf}
 
 -- ---- one key
-
-pub record Good (keys : List ℕ) (p : ℕ) : Type 0 where
-  pub small : getD keys p 0 < keyLimit
-  pub above : 0 < p → getD keys (p - 1) 0 < getD keys p 0
 
 module _ (keys : List ℕ) (p : ℕ) where
   abbrev isSmall : Bool
@@ -97,6 +93,29 @@ module _ (keys : List ℕ) (n : ℕ) where
   all-good e q h =
       let none : Scanned (λ q. goodOf keys q ≡ false) 0 n Nothing = rw e at faults in
       good-true keys q (either (goodOf keys q) (λ t. t) (λ t. absurd (none q (omega arith) h t)))
+
+  -- and back: from what a position is like to what the scan finds
+  pub fault-none : ((q : ℕ) → q < n → Good keys q) → faultOf keys n ≡ Nothing
+  fault-none good =
+      one-answer (λ q. goodOf keys q ≡ false) 0 n (faultOf keys n) Nothing faults (λ q a h e. clash (sym (true-good keys q (good q h)) ∙ e))
+
+  pub fault-at : (p : ℕ) → p < n → (Good keys p → ⊥) → ((q : ℕ) → q < p → Good keys q) → faultOf keys n ≡ At p
+  fault-at p below not-good good =
+      one-answer (λ q. goodOf keys q ≡ false) 0 n (faultOf keys n) (At p) faults
+      (record {
+        from = omega arith;
+        below = below;
+        holds = is-false (goodOf keys p) (λ e. not-good (good-true keys p e));
+        first = λ q a h e. clash (sym (true-good keys q (good q h)) ∙ e);
+      })
+
+  -- the positions below the lowest fault are good
+  pub lower-good : {p : ℕ} → faultOf keys n ≡ At p → (q : ℕ) → q < p → Good keys q
+  lower-good at q h =
+      good-true keys q (either (goodOf keys q) (λ t. t) (λ t. absurd (fault-lowest at .first q (omega arith) h t)))
+
+  pub fault-not-good : {p : ℕ} → faultOf keys n ≡ At p → Good keys p → ⊥
+  fault-not-good {p} at good = clash (sym (true-good keys p good) ∙ fault-lowest at .holds)
 
 -- the first n keys rise
 pub good-up : (keys : List ℕ) (n : ℕ) → n ≤ length keys → ((q : ℕ) → q < n → Good keys q) → Up 0 keyLimit (take n keys)

@@ -16,7 +16,7 @@ use Rattle.terms.specs.declared.Refusal.{Refusal}
 use Rattle.terms.specs.declared.Refusal.the-variants.{Limits, LargeKey, NotRising, SegmentRoom}
 use Rattle.scan.specs.declared.Found.{Found}
 use Rattle.scan.specs.declared.Found.the-variants.{At, Nothing}
-use Rattle.table.specs.Limits.{sizedOf, Sized, segmentRoom}
+use Rattle.table.specs.Limits.{sizedOf, segmentRoom}
 use Rattle.table.proofs.Limits.{sized-true, true-sized, Holds, room-holds}
 use Rattle.cone.specs.Rule.{cut}
 use Rattle.cone.proofs.Cover.{few}
@@ -24,7 +24,7 @@ use Rattle.cutting.specs.Rows.{Writable}
 use Rattle.build.specs.declared.Judged.{Judged}
 use Rattle.build.specs.declared.Judged.the-variants.{Clear, Faulty}
 use Rattle.build.specs.declared.Built.the-variants.{Made, Refused}
-use Rattle.build.specs.Build.{takesOf, faultOf, wrongOf, roomedOf, foundOf, judgedOf, answerBy, builtOf, Held, HeldAt, Roomable}
+use Rattle.build.specs.Build.{takesOf, Takes, faultOf, wrongOf, roomedOf, foundOf, judgedOf, answerBy, builtOf, Held, HeldAt, Roomable}
 use Rattle.build.proofs.Faults.{fault-lowest, all-good, good-cuttable}
 
 -- ---- the limits
@@ -39,10 +39,6 @@ module _ (e b n : ℕ) (keys : List ℕ) {s : Bool} (sized : s ≡ sizedOf e b n
   takes-not q = simp (sym sized ∙ q)
 
 pub ruleset takes-cases = (takes-held, takes-not)
-
-pub record Takes (e b n : ℕ) (keys : List ℕ) : Type 0 where
-  pub sized : Sized e b n
-  pub held : n ≤ length keys
 
 pub takes-true : (e b n : ℕ) (keys : List ℕ) → takesOf e b n keys ≡ true → Takes e b n keys
 unfolding takesOf

@@ -1,4 +1,5 @@
 -- 01, "Build: 1; then 2 or 3 at the lowest faulty position, 2 before 3; 7." What build answers, and what it leaves in the table, on every input.
+-- A test that is used as a fact stands beside the record of that fact.
 use mathlib.Core.Bool.{Bool}
 use mathlib.Core.List.{List, _++_}
 use Prim.Native.Nat.{ℕ, _-_, _*_, _≤_, _<_}
@@ -11,7 +12,7 @@ use Rattle.terms.specs.declared.Refusal.the-variants.{Limits, LargeKey, NotRisi
 use Rattle.scan.specs.declared.Found.{Found}
 use Rattle.scan.specs.declared.Found.the-variants.{At, Nothing}
 use Rattle.scan.specs.Scan.{failsOf}
-use Rattle.table.specs.Limits.{sizedOf, segmentRoom}
+use Rattle.table.specs.Limits.{sizedOf, Sized, segmentRoom}
 use Rattle.cone.specs.Rule.{cut}
 use Rattle.cone.specs.Keys.{Cuttable}
 use Rattle.cutting.specs.Rows.{rowsOf}
@@ -24,9 +25,17 @@ use Rattle.build.specs.declared.Built.the-variants.{Made, Refused}
 unfoldable pub takesOf : ℕ → ℕ → ℕ → List ℕ → Bool
 takesOf e b n keys = both (sizedOf e b n) (leb n (length keys))
 
+pub record Takes (e b n : ℕ) (keys : List ℕ) : Type 0 where
+  pub sized : Sized e b n
+  pub held : n ≤ length keys
+
 -- the key at p is below 2^44, and above the one before
 unfoldable pub goodOf : List ℕ → ℕ → Bool
 goodOf keys p = both (ltb (getD keys p 0) keyLimit) (imp (ltb 0 p) (ltb (getD keys (p - 1) 0) (getD keys p 0)))
+
+pub record Good (keys : List ℕ) (p : ℕ) : Type 0 where
+  pub small : getD keys p 0 < keyLimit
+  pub above : 0 < p → getD keys (p - 1) 0 < getD keys p 0
 
 -- the lowest faulty position among the first n
 unfoldable pub faultOf : List ℕ → ℕ → Found

@@ -9,6 +9,7 @@ ghost use lib.ListN.{length};
 ghost use Rattle.table.specs.Limits.{segmentRoom};
 ghost use Rattle.cone.specs.Rule.{cut};
 ghost use Rattle.build.specs.Build.{goodOf, faultOf, wrongOf, judgedOf, builtOf, tableBy, takesOf, Held, HeldAt, Roomable};
+ghost use Rattle.build.specs.Fronts.{FourHeld, fourOf, Front, GoodFront};
 
 // The number of segments, or why there are none.
 pub enum Built {
@@ -47,12 +48,66 @@ fn good(keys: &[u64], p: usize) -> bool
     false
 }
 
+// Whether the four keys from p on are each above the one before.
+fn four_rise(keys: &[u64], p: usize) -> bool
+    requires { ⌜ FourHeld (now keys) p ⌝ }
+    ensures { λ r. ⌜ r ≡ fourOf (now (keys .entry)) p ⌝ }
+{
+    if keys[p] <= keys[p - 1] {
+        return false;
+    }
+    if keys[p + 1] <= keys[p] {
+        return false;
+    }
+    if keys[p + 2] <= keys[p + 1] {
+        return false;
+    }
+    if keys[p + 3] <= keys[p + 2] {
+        return false;
+    }
+    true
+}
+
+// How many keys rise from the first on, looked at four at a time: up to three more may.
+fn rising_front(keys: &[u64], n: usize) -> usize
+    requires { ⌜ Held (now keys) n ⌝ }
+    ensures { λ r. ⌜ Front (now (keys .entry)) n r ⌝ }
+{
+    if n < 1 {
+        return 0;
+    }
+    let mut p: usize = 1;
+    while 4 <= n - p {
+        if four_rise(keys, p) {
+            p += 4;
+        } else {
+            return p;
+        }
+    }
+    p
+}
+
+// A position below which every key is good: where keys rise, the last of them being a key is enough.
+fn good_front(keys: &[u64], n: usize) -> usize
+    requires { ⌜ Held (now keys) n ⌝ }
+    ensures { λ r. ⌜ GoodFront (now (keys .entry)) n r ⌝ }
+{
+    let p = rising_front(keys, n);
+    if p < 1 {
+        return 0;
+    }
+    if terms::is_key(keys[p - 1]) {
+        return p;
+    }
+    0
+}
+
 // The lowest of the first n positions whose key is not good.
 fn lowest_fault(keys: &[u64], n: usize) -> Found
     requires { ⌜ Held (now keys) n ⌝ }
     ensures { λ r. ⌜ r ≡ faultOf (now (keys .entry)) n ⌝ }
 {
-    let mut p: usize = 0;
+    let mut p: usize = good_front(keys, n);
     while p < n {
         if good(keys, p) {
             p += 1;

@@ -1,65 +1,102 @@
--- The cases of a step and of a closed segment's run; a cone describes a segment, and one step of it decides the rule.
+-- The cases of a step; a cone describes a segment, and one step of it decides the rule.
 -- Assumes nothing.
 use mathlib.Core.Path.{_≡_, refl, sym, ap, _∙_}
 use mathlib.Core.Bool.{Bool, true, false}
 use mathlib.Core.List.{List}
 use Prim.Native.Nat.{ℕ, _+_, _-_, _*_, _≤_, _<_}
-use native.Mathlib.Nat.{add-zero, sub-self, add-sub-cancel}
+use native.Mathlib.Nat.{add-zero, sub-self, mul-sub, le-of-lt}
 use native.Mathlib.Omega.{arith}
 use lib.ListN.{getD}
-use lib.Dec.{leb}
-use borrow.Author.Tests.{leb-true, le-leb, eq-eqb, ne-eqb}
+use lib.Dec.{leb, ltb}
+use borrow.Author.Tests.{leb-true, le-leb, ltb-true, ltb-false}
 use Rattle.lists.specs.Tests.{pick, both}
 use Rattle.lists.proofs.Tests.{both-true, true-both, same-test, either}
-use Rattle.products.specs.Products.{Comparable}
+use Rattle.products.specs.declared.Wide.{Wide}
+use Rattle.products.specs.Products.{Single, Comparable, Slackened}
 use Rattle.terms.specs.declared.Key.{Key}
 use Rattle.terms.specs.Limits.{keyLimit}
 use Rattle.cone.specs.declared.Frac.{Frac}
 use Rattle.cone.specs.declared.Cone.{Cone}
 use Rattle.cone.specs.declared.Step.{Step}
 use Rattle.cone.specs.declared.Step.the-variants.{Joined, Apart}
-use Rattle.cone.specs.Rule.{far, Joins, joins, segmentOf}
-use Rattle.cone.specs.Step.{Ready, steeperOf, startOf, grown, lets, stepOf, runOf}
-use Rattle.cone.proofs.Numbers.{wide, wide′, over, under}
+use Rattle.cone.specs.Rule.{far, Joins, joins}
+use Rattle.cone.specs.Step.{Ready, startOf, newFlat, newSteep, flatOf, steepOf, grown, lets, stepOf}
+use Rattle.cone.proofs.Numbers.{wide, wide′, over, under, slack-more}
 use Rattle.cone.proofs.Rules.{joins-true, true-joins}
 use Rattle.cone.proofs.Tops
 use Rattle.cone.proofs.Tops.{Tops}
 
--- ---- the larger of two fractions
-
-module _ (f g : Frac) {r : Bool} (tested : r ≡ leb (g .top * f .bottom) (f .top * g .bottom)) where
-  pub steeper-first : r ≡ true → f ≡ steeperOf f g
-  steeper-first q = simp (sym tested ∙ q)
-
-  pub steeper-second : r ≡ false → g ≡ steeperOf f g
-  steeper-second q = simp (sym tested ∙ q)
-
-pub ruleset steeper-cases = (steeper-first, steeper-second)
-
--- ---- the run of a closed segment
-
-pub run-one : (c : Cone) → c .count ≡ 1 → 1 ≡ runOf c
-run-one c q = simp (eq-eqb _ _ q)
-
-pub run-more : (c : Cone) → (c .count ≡ 1 → ⊥) → c .last .0 - c .origin .0 ≡ runOf c
-run-more c q = simp (ne-eqb _ _ q)
-
-pub ruleset run-cases = (run-one, run-more)
-
--- ---- a step: what it multiplies fits, and what it answers
+-- ---- what a step multiplies fits
 
 module _ (e : ℕ) (c : Cone) (key : Key) (ready : Ready e c key) where
   pub flat-asks : Comparable (c .flat .top) (c .count) (key .0 - c .origin .0) (c .flat .bottom)
-  flat-asks = record { left = wide _ _ (ready .flat-top) (omega arith); right = wide _ _ (omega arith) (omega arith) }
+  flat-asks =
+      record {
+        left = omega (arith, wide (c .flat .top) (c .count) (ready .flat-top) (omega arith));
+        right = omega (arith, wide (key .0 - c .origin .0) (c .flat .bottom) (omega arith) (omega arith));
+      }
 
   pub steep-asks : Comparable (c .steep .top) (key .0 - c .origin .0) (c .count) (c .steep .bottom)
-  steep-asks = record { left = wide′ _ _ (omega arith) (omega arith); right = wide′ _ _ (omega arith) (ready .steep-bottom) }
+  steep-asks =
+      record {
+        left = omega (arith, wide′ (c .steep .top) (key .0 - c .origin .0) (omega arith) (omega arith));
+        right = omega (arith, wide′ (c .count) (c .steep .bottom) (omega arith) (ready .steep-bottom));
+      }
 
-  pub flatter-asks : Comparable (key .0 - c .origin .0) (c .flat .bottom) (c .flat .top) (c .count + e)
-  flatter-asks = record { left = flat-asks .right; right = wide _ _ (ready .flat-top) (omega arith) }
+  pub product-asks : Single e (key .0 - c .origin .0)
+  product-asks = record { fits = omega (arith, wide′ e (key .0 - c .origin .0) (omega arith) (omega arith)) }
 
-  pub steeper-asks : {n : ℕ} → n ≡ c .count - e → Comparable n (c .steep .bottom) (c .steep .top) (key .0 - c .origin .0)
-  steeper-asks q = record { left = wide′ _ _ (omega arith) (ready .steep-bottom); right = steep-asks .left }
+  pub flatter-asks : Slackened (c .flat .top) (c .count) (key .0 - c .origin .0) (c .flat .bottom) (c .flat .slack .0)
+  flatter-asks =
+      record {
+        left = omega (arith, ready .flat-slack, wide (c .flat .top) (c .count) (ready .flat-top) (omega arith), wide′ e (c .flat .top) (omega arith) (ready .flat-top));
+        right = flat-asks .right;
+      }
+
+  pub steeper-asks : Slackened (c .steep .top) (key .0 - c .origin .0) (c .count) (c .steep .bottom) (c .steep .slack .0)
+  steeper-asks =
+      record {
+        left =
+            omega (
+              arith,
+              ready .steep-slack,
+              wide′ (c .steep .top) (key .0 - c .origin .0) (omega arith) (omega arith),
+              wide′ e (c .steep .bottom) (omega arith) (ready .steep-bottom),
+            );
+        right = steep-asks .right;
+      }
+
+  -- ---- the fractions that are kept
+
+  module _ {r : Bool} (tested : r ≡ ltb (c .flat .top * c .count + c .flat .slack .0) ((key .0 - c .origin .0) * c .flat .bottom)) where
+    pub flat-new : {w : Wide} → r ≡ true → w .0 ≡ e * (key .0 - c .origin .0) → record { top = key .0 - c .origin .0; bottom = c .count + e; slack = w } ≡ flatOf e c (key .0)
+    unfolding flatOf
+    flat-new q is = simp (sym tested ∙ q, sym is)
+
+    pub flat-old : r ≡ false → c .flat ≡ flatOf e c (key .0)
+    unfolding flatOf
+    flat-old q = simp (sym tested ∙ q)
+
+  module _ {r : Bool} (tested : r ≡ ltb (c .steep .top * (key .0 - c .origin .0) + c .steep .slack .0) (c .count * c .steep .bottom)) where
+    -- more than e keys: what is subtracted is not above
+    pub steep-more : r ≡ true → e ≤ c .count
+    steep-more q =
+        let h : c .steep .top * (key .0 - c .origin .0) + e * c .steep .bottom < c .count * c .steep .bottom = rw (← ready .steep-slack) (ltb-true _ _ (sym tested ∙ q)) in
+        le-of-lt (slack-more (c .count) e (c .steep .bottom) (c .steep .top * (key .0 - c .origin .0)) h)
+
+    pub steep-new : {w : Wide} → r ≡ true → w .0 ≡ e * (key .0 - c .origin .0) → record { top = c .count - e; bottom = key .0 - c .origin .0; slack = w } ≡ steepOf e c (key .0)
+    unfolding steepOf
+    steep-new q is = simp (sym tested ∙ q, sym is)
+
+    pub steep-old : r ≡ false → c .steep ≡ steepOf e c (key .0)
+    unfolding steepOf
+    steep-old q = simp (sym tested ∙ q)
+
+pub ruleset flatter-cases = (product-asks, flatter-asks, flat-new, flat-old)
+
+pub ruleset steeper-cases = (product-asks, steeper-asks, steep-more, steep-new, steep-old)
+
+-- ---- what a step answers
 
 module _
     (e : ℕ) (c : Cone) (key : ℕ) {u : Bool} (below : u ≡ leb (c .flat .top * c .count) ((key - c .origin .0) * c .flat .bottom)) where
@@ -73,14 +110,12 @@ module _
     too-steep q = simp (sym below ∙ p, sym above ∙ q)
 
     pub joins-it :
-        v ≡ true → {n : ℕ} → n ≡ c .count - e
-        → {f s : Frac} → f ≡ steeperOf (c .flat) (record { top = key - c .origin .0; bottom = c .count + e })
-        → s ≡ steeperOf (c .steep) (record { top = n; bottom = key - c .origin .0 })
-        → Joined (record { origin = c .origin; last = record { 0 = key }; count = c .count + 1; flat = f; steep = s }) ≡ stepOf e c key
+        v ≡ true → {f s : Frac} → f ≡ flatOf e c key → s ≡ steepOf e c key
+        → Joined (record { origin = c .origin; count = c .count + 1; flat = f; steep = s }) ≡ stepOf e c key
     unfolding stepOf
-    joins-it q n-is f-is s-is = simp (sym below ∙ p, sym above ∙ q, f-is, s-is, n-is)
+    joins-it q f-is s-is = simp (sym below ∙ p, sym above ∙ q, f-is, s-is)
 
-pub ruleset step-cases = (flat-asks, steep-asks, flatter-asks, steeper-asks, too-flat, too-steep, joins-it)
+pub ruleset step-cases = (flat-asks, steep-asks, too-flat, too-steep, joins-it)
 
 -- what a step answered, read back
 module _ (e : ℕ) (c : Cone) (key : ℕ) where
@@ -100,12 +135,40 @@ module _ (e : ℕ) (c : Cone) (key : ℕ) where
       go true p s = absurd (let z : _≡_ {A = ℕ} 0 1 = cc in omega arith)
       go false p s = p
 
+-- ---- the numbers of a cone stay small
+
+pub record Fit (e : ℕ) (c : Cone) : Type 0 where
+  pub flat-top : c .flat .top < keyLimit
+  pub flat-bottom : c .flat .bottom ≤ c .count + e
+  pub flat-slack : c .flat .slack .0 ≡ e * c .flat .top
+  pub steep-top : c .steep .top ≤ c .count
+  pub steep-bottom : c .steep .bottom < keyLimit
+  pub steep-slack : c .steep .slack .0 ≡ e * c .steep .bottom
+
+pub fit-start : (e key : ℕ) → Fit e (startOf e key)
+fit-start e key = omega arith
+
+pub fit-grown : (e : ℕ) (c : Cone) (key : ℕ) → key < keyLimit → Fit e c → Fit e (grown e c key)
+unfolding flatOf steepOf
+fit-grown e c key small s =
+    either (ltb (c .flat .top * c .count + c .flat .slack .0) ((key - c .origin .0) * c .flat .bottom))
+    (λ p. either (ltb (c .steep .top * (key - c .origin .0) + c .steep .slack .0) (c .count * c .steep .bottom))
+    (λ q. simp (p, q) (fitted (newFlat e c key) (newSteep e c key) (omega arith) (omega arith) refl (omega arith) (omega arith) refl))
+    (λ q. simp (p, q) (fitted (newFlat e c key) (c .steep) (omega arith) (omega arith) refl (omega arith) (s .steep-bottom) (s .steep-slack))))
+    (λ p. either (ltb (c .steep .top * (key - c .origin .0) + c .steep .slack .0) (c .count * c .steep .bottom))
+    (λ q. simp (p, q) (fitted (c .flat) (newSteep e c key) (s .flat-top) (omega arith) (s .flat-slack) (omega arith) (omega arith) refl))
+    (λ q. simp (p, q) (fitted (c .flat) (c .steep) (s .flat-top) (omega arith) (s .flat-slack) (omega arith) (s .steep-bottom) (s .steep-slack))))
+  where
+    fitted :
+        (f g : Frac) → f .top < keyLimit → f .bottom ≤ c .count + 1 + e → f .slack .0 ≡ e * f .top → g .top ≤ c .count + 1 → g .bottom < keyLimit
+        → g .slack .0 ≡ e * g .bottom → Fit e (record { origin = c .origin; count = c .count + 1; flat = f; steep = g })
+    fitted f g a b d x y z = record { flat-top = a; flat-bottom = b; flat-slack = d; steep-top = x; steep-bottom = y; steep-slack = z }
+
 -- ---- the cone stands for the keys from position i on, as many as it counts
 
 pub record Describes (e : ℕ) (ks : List ℕ) (i : ℕ) (c : Cone) : Type 0 where
   pub origin : c .origin .0 ≡ getD ks i 0
   pub some : 0 < c .count
-  pub last : c .last .0 ≡ getD ks (i + (c .count - 1)) 0
   pub flat : Tops (c .flat) (far ks i) (λ (m : ℕ). m + e) (c .count)
   pub steep : Tops (c .steep) (λ (m : ℕ). m - e) (far ks i) (c .count)
 
@@ -113,14 +176,13 @@ pub far-zero : (ks : List ℕ) (i : ℕ) → far ks i 0 ≡ 0
 far-zero ks i = simp (add-zero, sub-self)
 
 -- one key
-pub started : (e : ℕ) (ks : List ℕ) (i : ℕ) → Describes e ks i (startOf (getD ks i 0))
+pub started : (e : ℕ) (ks : List ℕ) (i : ℕ) → Describes e ks i (startOf e (getD ks i 0))
 started e ks i =
     record {
       origin = refl;
       some = omega arith;
-      last = simp add-zero;
-      flat = Tops.none (far ks i) (λ (m : ℕ). m + e) (far-zero ks i);
-      steep = Tops.none (λ (m : ℕ). m - e) (far ks i) (omega arith);
+      flat = Tops.none (record { 0 = 0 }) (far ks i) (λ (m : ℕ). m + e) (far-zero ks i);
+      steep = Tops.none (record { 0 = e }) (λ (m : ℕ). m - e) (far ks i) (omega arith);
     }
 
 module _ (e : ℕ) (ks : List ℕ) (i : ℕ) (c : Cone) (s : Describes e ks i c) where
@@ -164,42 +226,25 @@ module _ (e : ℕ) (ks : List ℕ) (i : ℕ) (c : Cone) (s : Describes e ks i c)
       (λ t. join-tests (joins-true e ks i (c .count) t)))
 
   -- one key more
-  pub joined : 0 < far ks i (c .count) → Describes e ks i (grown e c (getD ks (i + c .count) 0))
-  joined pos =
+  pub joined : Fit e c → 0 < far ks i (c .count) → Describes e ks i (grown e c (getD ks (i + c .count) 0))
+  unfolding flatOf steepOf
+  joined fit pos =
       record {
         origin = s .origin;
         some = omega arith;
-        last = simp add-sub-cancel;
-        flat = rw away (Tops.more (c .flat) (far ks i) (λ (m : ℕ). m + e) (c .count) (s .flat) (omega (arith, s .some)));
-        steep = rw away (Tops.more (c .steep) (λ (m : ℕ). m - e) (far ks i) (c .count) (s .steep) pos);
+        flat =
+            rw away
+            (Tops.more (c .flat) (record { 0 = e * far ks i (c .count) }) (far ks i) (λ (m : ℕ). m + e) (c .count)
+            (ltb (c .flat .top * c .count + c .flat .slack .0) (far ks i (c .count) * c .flat .bottom))
+            (λ q. omega (arith, fit .flat-slack, ltb-true (c .flat .top * c .count + c .flat .slack .0) (far ks i (c .count) * c .flat .bottom) q))
+            (λ q. omega (arith, fit .flat-slack, ltb-false (c .flat .top * c .count + c .flat .slack .0) (far ks i (c .count) * c .flat .bottom) q))
+            (s .flat) (omega (arith, s .some)));
+        steep =
+            rw away
+            (Tops.more (c .steep) (record { 0 = e * far ks i (c .count) }) (λ (m : ℕ). m - e) (far ks i) (c .count)
+            (ltb (c .steep .top * far ks i (c .count) + c .steep .slack .0) (c .count * c .steep .bottom))
+            (λ q. omega (arith, fit .steep-slack, mul-sub (c .steep .bottom) (c .count) e, ltb-true (c .steep .top * far ks i (c .count) + c .steep .slack .0) (c .count * c .steep .bottom) q))
+            (λ q. under (c .count) e (c .steep .bottom) (c .steep .top * far ks i (c .count))
+            (omega (arith, fit .steep-slack, ltb-false (c .steep .top * far ks i (c .count) + c .steep .slack .0) (c .count * c .steep .bottom) q)))
+            (s .steep) pos);
       }
-
--- the segment that a cone describes, once it is closed
-pub segment-is :
-    (e : ℕ) (ks : List ℕ) (i : ℕ) (c : Cone) → Describes e ks i c
-    → segmentOf ks i (c .count) ≡ record { first = c .origin .0; base = i; rise = c .count - 1; run = runOf c }
-unfolding segmentOf
-segment-is e ks i c s = simp (s .origin, s .last)
-
--- ---- the numbers of a cone stay small
-
-pub record Fit (e : ℕ) (c : Cone) : Type 0 where
-  pub flat-top : c .flat .top < keyLimit
-  pub flat-bottom : c .flat .bottom ≤ c .count + e
-  pub steep-top : c .steep .top ≤ c .count
-  pub steep-bottom : c .steep .bottom < keyLimit
-
-pub fit-start : (e key : ℕ) → Fit e (startOf key)
-fit-start e key = omega arith
-
--- of two fractions that are small, the larger is
-picked : (P : Frac → Type 0) (f g : Frac) → P f → P g → P (steeperOf f g)
-picked P f g h k = either (leb (g .top * f .bottom) (f .top * g .bottom)) (λ q. simp q h) (λ q. simp q k)
-
-pub fit-grown : (e : ℕ) (c : Cone) (key : ℕ) → key < keyLimit → Fit e c → Fit e (grown e c key)
-fit-grown e c key small s =
-    let flat = picked (λ (f : Frac). (f .top < keyLimit) × (f .bottom ≤ c .count + 1 + e)) (c .flat)
-    (record { top = key - c .origin .0; bottom = c .count + e }) (omega arith) (omega arith) in
-    let steep = picked (λ (f : Frac). (f .top ≤ c .count + 1) × (f .bottom < keyLimit)) (c .steep)
-    (record { top = c .count - e; bottom = key - c .origin .0 }) (omega arith) (omega arith) in
-    record { flat-top = flat .0; flat-bottom = flat .1; steep-top = steep .0; steep-bottom = steep .1 }

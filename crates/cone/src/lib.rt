@@ -1,23 +1,25 @@
 // ShrinkingCone: whether the next key joins the segment, in O(1) a key, by two fractions that stand for all the earlier keys.
+use products::Wide;
 use terms::Key;
 ghost use mathlib.Core.Path.{_≡_};
 ghost use mathlib.Core.Bool.{Bool};
-ghost use Prim.Native.Nat.{_-_, _*_};
+ghost use Prim.Native.Nat.{_*_};
 ghost use lib.Dec.{leb};
 ghost use Rattle.products.specs.Products.{Comparable};
-ghost use Rattle.cone.specs.Step.{Ready, Closable, steeperOf, startOf, stepOf, runOf};
+ghost use Rattle.cone.specs.Step.{Ready, startOf, flatOf, steepOf, stepOf};
 
-// A fraction, whose bottom is not 0.
+// A fraction, whose bottom is not 0. The slack is e times its key distance: by so much a product with the one may be past the product with
+// the other before a new fraction is larger, so it is kept and not worked out for each key.
 pub struct Frac {
     pub top: u64,
     pub bottom: u64,
+    pub slack: Wide,
 }
 
-// A segment so far: its first and its last key, how many they are, and the two fractions that bound its line.
+// A segment so far: its first key, how many keys it has, and the two fractions that bound its line.
 // `flat` is the largest (key distance) / (position + e), and `steep` the largest (position - e) / (key distance).
 pub struct Cone {
     pub origin: Key,
-    pub last: Key,
     pub count: u64,
     pub flat: Frac,
     pub steep: Frac,
@@ -37,36 +39,65 @@ fn within(f: Frac, x: u64, y: u64) -> bool
     products::at_most(f.top, y, x, f.bottom)
 }
 
-// The larger of two fractions, the first where they are equal.
-fn steeper(f: Frac, g: Frac) -> Frac
-    requires { ⌜ Comparable (g .top) (f .bottom) (f .top) (g .bottom) ⌝ }
-    ensures { λ r. ⌜ r ≡ steeperOf f g ⌝ }
-{
-    if products::at_most(g.top, f.bottom, f.top, g.bottom) {
-        return f;
-    }
-    g
-}
-
-// a - b, and 0 where b is larger.
-fn less(a: u64, b: u64) -> u64
-    ensures { λ r. ⌜ r ≡ a - b ⌝ }
-{
-    if a < b { 0 } else { a - b }
-}
-
 impl Cone {
     // A segment of one key, which any key may join.
-    pub fn start(key: Key) -> Self
-        ensures { λ r. ⌜ r ≡ startOf (key .0) ⌝ }
+    pub fn start(e: u64, key: Key) -> Self
+        ensures { λ r. ⌜ r ≡ startOf e (key .0) ⌝ }
     {
         Cone {
             origin: key,
-            last: key,
             count: 1,
-            flat: Frac { top: 0, bottom: 1 },
-            steep: Frac { top: 0, bottom: 1 },
+            flat: Frac {
+                top: 0,
+                bottom: 1,
+                slack: Wide(0),
+            },
+            steep: Frac {
+                top: 0,
+                bottom: 1,
+                slack: Wide(e),
+            },
         }
+    }
+
+    // The new key's fraction in the place of `flat`, where it is larger.
+    fn flatter(self, e: u64, key: Key) -> Frac
+        requires { ⌜ Ready e self key ⌝ }
+        ensures { λ r. ⌜ r ≡ flatOf e self (key .0) ⌝ }
+    {
+        let origin = self.origin;
+        let far = key.0 - origin.0;
+        let f = self.flat;
+        let slack = f.slack;
+        if products::past(f.top, self.count, far, f.bottom, slack) {
+            let w = products::product(e, far);
+            return Frac {
+                top: far,
+                bottom: self.count + e,
+                slack: w,
+            };
+        }
+        f
+    }
+
+    // The same of `steep`. It is larger only where there are more than e keys.
+    fn steeper(self, e: u64, key: Key) -> Frac
+        requires { ⌜ Ready e self key ⌝ }
+        ensures { λ r. ⌜ r ≡ steepOf e self (key .0) ⌝ }
+    {
+        let origin = self.origin;
+        let far = key.0 - origin.0;
+        let f = self.steep;
+        let slack = f.slack;
+        if products::past(f.top, far, self.count, f.bottom, slack) {
+            let w = products::product(e, far);
+            return Frac {
+                top: self.count - e,
+                bottom: far,
+                slack: w,
+            };
+        }
+        f
     }
 
     // The new key joins where the line from the origin to it lies between the two fractions.
@@ -81,19 +112,10 @@ impl Cone {
         let steep = self.steep;
         if within(flat, far, count) {
             if within(steep, count, far) {
-                let flatter = Frac {
-                    top: far,
-                    bottom: count + e,
-                };
-                let higher = Frac {
-                    top: less(count, e),
-                    bottom: far,
-                };
-                let f = steeper(flat, flatter);
-                let s = steeper(steep, higher);
+                let f = self.flatter(e, key);
+                let s = self.steeper(e, key);
                 return Step::Joined(Cone {
                     origin,
-                    last: key,
                     count: count + 1,
                     flat: f,
                     steep: s,
@@ -101,23 +123,5 @@ impl Cone {
             }
         }
         Step::Apart
-    }
-
-    // How far the segment's line rises, and over how long a run of keys: one key rises 0 over 1.
-    pub fn rise(self) -> u64
-        requires { ⌜ Closable self ⌝ }
-        ensures { λ r. ⌜ r ≡ self .count - 1 ⌝ }
-    {
-        self.count - 1
-    }
-
-    pub fn run(self) -> u64
-        requires { ⌜ Closable self ⌝ }
-        ensures { λ r. ⌜ r ≡ runOf self ⌝ }
-    {
-        if self.count == 1 {
-            return 1;
-        }
-        self.last.0 - self.origin.0
     }
 }

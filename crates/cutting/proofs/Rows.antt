@@ -9,10 +9,6 @@ use lib.Seq.{sets, sets-eq, take-add, take-at, drop-at, drop-drop, length-take-l
 use Rattle.cone.specs.Rule.{Segment}
 use Rattle.cutting.specs.Rows.{rowOf, rowsOf}
 
-pub rows-none : (from : ℕ) → rowsOf from [] ≡ []
-unfolding rowsOf
-rows-none from = refl
-
 pub rows-one : (from : ℕ) (x : Segment) → rowsOf from (x ∷ []) ≡ rowOf from x
 unfolding rowsOf
 rows-one from x = refl

@@ -1,11 +1,9 @@
 -- 01, "Segment i has five numbers in the table: first key, base, rise, run, held." The cells of a cut's segments; "Held" is 0.
 use mathlib.Core.List.{List, [], _∷_, _++_}
-use Prim.Native.Nat.{ℕ, _+_, _-_, _*_, _≤_}
-use lib.ListN.{length}
+use Prim.Native.Nat.{ℕ, _+_, _-_, _*_, _≤_, _<_}
+use lib.ListN.{length, getD}
 use Rattle.terms.specs.Limits.{nMost}
-use Rattle.cone.specs.declared.Cone.{Cone}
 use Rattle.cone.specs.Rule.{Segment, cut}
-use Rattle.cone.specs.Step.{Closable, runOf}
 use Rattle.cone.specs.Keys.{Cuttable}
 
 -- positions of the cut are counted from the start of its list, which stands in the key slice from position `from` on
@@ -16,13 +14,16 @@ unfoldable pub rowsOf : ℕ → List Segment → List ℕ
 rowsOf from [] = []
 rowsOf from (x ∷ xs) = rowOf from x ++ rowsOf from xs
 
--- the five numbers of a segment that its cone describes, and whose first key stands at `base`
-abbrev pub closedRow : Cone → ℕ → List ℕ
-closedRow c base = c .origin .0 ∷ base ∷ (c .count - 1) ∷ runOf c ∷ 0 ∷ []
+-- what the numbers of a closed segment of c keys ask: it has keys, the last not below the first
+pub record Stretch (ks : List ℕ) (i c : ℕ) : Type 0 where
+  pub some : 0 < c
+  pub inside : i + c ≤ length ks
+  pub ordered : getD ks i 0 ≤ getD ks (i + (c - 1)) 0
 
--- what writing one entry asks: the cone has keys, and the table holds row n
-pub record Row (table : List ℕ) (n : ℕ) (c : Cone) : Type 0 where
-  pub closable : Closable c
+-- and what writing them as row n asks
+pub record Room (ks : List ℕ) (i c from : ℕ) (table : List ℕ) (n : ℕ) : Type 0 where
+  pub stretch : Stretch ks i c
+  pub place : from + i ≤ nMost
   pub held : 5 * n + 5 ≤ length table
 
 -- what writing a cut asks

@@ -99,6 +99,11 @@ neighbours-up lo hi (x ∷ xs) low small rise = (
   ),
 )
 
+pub up-drop : (lo hi : ℕ) (xs : List ℕ) (n : ℕ) → Up lo hi xs → Up lo hi (drop n xs)
+up-drop lo hi xs zero u = u
+up-drop lo hi [] (suc n) u = tt
+up-drop lo hi (x ∷ xs) (suc n) u = lower lo (suc x) hi (drop n xs) (omega (arith, u .0)) (up-drop (suc x) hi xs n (u .1 .1))
+
 -- ---- where it is, and its bounds by what is in it
 
 pub record Place (k : ℕ) (xs : List ℕ) : Type 0 where

@@ -4,6 +4,7 @@ use Rattle.build.specs.Build.{goodOf, faultOf}
 use mathlib.Core.Path.{_≡_}
 use Prim.Native.Nat.{_-_}
 use Rattle.build.proofs.Faults.{fault-cases}
+use Rattle.build.proofs.Fronts.{scan-past}
 use Rattle.build.proofs.lowest_fault.Statement.{statement}
 use Rattle.build.proofs.lowest_fault.Tie as tie
 
@@ -19,10 +20,11 @@ lowest-fault-spec =
     (tie.spec
     Inv-loop
     μ-loop
-    (λ c. search (fault-cases, needs))  -- loop-holds
-    (λ c κs. search (fault-cases, needs))  -- good-requires
-    (λ c. search (fault-cases, needs))  -- add-p
-    (λ c. search (fault-cases, needs))  -- loop-less
-    (λ c. search (fault-cases, needs))  -- loop-again
-    (λ c. search (fault-cases, needs))  -- returns
-    (λ c. search (fault-cases, needs)))
+    (λ c κs. search (fault-cases, scan-past, needs))  -- good-front-requires
+    (λ c. search (fault-cases, scan-past, needs))  -- loop-holds
+    (λ c κs. search (fault-cases, scan-past, needs))  -- good-requires
+    (λ c. search (fault-cases, scan-past, needs))  -- add-p
+    (λ c. search (fault-cases, scan-past, needs))  -- loop-less
+    (λ c. search (fault-cases, scan-past, needs))  -- loop-again
+    (λ c. search (fault-cases, scan-past, needs))  -- returns
+    (λ c. search (fault-cases, scan-past, needs)))

@@ -10,21 +10,24 @@ close-spec =
     tie.close
     (tie.spec
     (λ c. search (row-written, needs))  -- mul-at
+    (λ c κs. search (row-written, needs))  -- run-of-requires
     (λ c. search (row-written, needs))  -- mul-table
+    (λ c. search (row-written, needs))  -- shared-slice-read-table
+    (λ c. search (row-written, needs))  -- mul-table-2
     (λ c. search (row-written, needs))  -- slice-write-table
     (λ c. search (row-written, needs))  -- add-table
-    (λ c. search (row-written, needs))  -- mul-table-2
-    (λ c. simp length-set (omega arith))  -- slice-write-table-2
-    (λ c κs. search (row-written, needs))  -- rise-requires
     (λ c. search (row-written, needs))  -- add-table-2
     (λ c. search (row-written, needs))  -- mul-table-3
-    (λ c. simp length-set (omega arith))  -- slice-write-table-3
-    (λ c κs. search (row-written, needs))  -- run-requires
+    (λ c. simp length-set (omega arith))  -- slice-write-table-2
+    (λ c. search (row-written, needs))  -- sub-table
     (λ c. search (row-written, needs))  -- add-table-3
     (λ c. search (row-written, needs))  -- mul-table-4
-    (λ c. simp length-set (omega arith))  -- slice-write-table-4
+    (λ c. simp length-set (omega arith))  -- slice-write-table-3
     (λ c. search (row-written, needs))  -- add-table-4
     (λ c. search (row-written, needs))  -- mul-table-5
+    (λ c. simp length-set (omega arith))  -- slice-write-table-4
+    (λ c. search (row-written, needs))  -- add-table-5
+    (λ c. search (row-written, needs))  -- mul-table-6
     (λ c. simp length-set (omega arith))  -- slice-write-table-5
     (λ c. search (row-written, needs))  -- same-length
     (λ c. search (row-written, needs)))

@@ -7,10 +7,10 @@ use Rattle.cutting.proofs.write_segments.Statement.{statement}
 use Rattle.cutting.proofs.write_segments.Tie as tie
 
 abbrev Inv-loop : tie.InvT-loop
-Inv-loop e keys from table₀ bound cone₀ base₀ closed₀ j₀ table cone base closed j = Writing e keys from table₀ closed base j cone table
+Inv-loop e keys from table₀ i₀ n₀ table i n = Writing e keys from table₀ i n table
 
 abbrev μ-loop : tie.MeasureT-loop
-μ-loop e keys from table₀ bound cone₀ base₀ closed₀ j₀ table cone base closed j = length keys - j
+μ-loop e keys from table₀ i₀ n₀ table i n = length keys - i
 
 pub write-segments-spec : {M : Type 1} → statement M
 write-segments-spec =
@@ -18,27 +18,16 @@ write-segments-spec =
     (tie.spec
     Inv-loop
     μ-loop
-    (λ c. search (write-cases, needs))  -- returns
-    (λ c. search (write-cases, needs))  -- shared-slice-read-t16
-    (λ c κs. search (write-cases, needs))  -- start-requires
     (λ c. search (write-cases, needs))  -- loop-holds
-    (λ c. search (write-cases, needs))  -- mul-key
-    (λ c. search (write-cases, needs))  -- shared-slice-read-key
-    (λ c κs. search (write-cases, needs))  -- step-requires
-    (λ c. search (write-cases, needs))  -- enum-known-next
-    (λ c. search (write-cases, needs))  -- add-j
+    (λ c. search (write-cases, needs))  -- mul-first-size
+    (λ c. search (write-cases, needs))  -- sub-first-size
+    (λ c. search (write-cases, needs))  -- part-first-size-start
+    (λ c. search (write-cases, needs))  -- part-first-size-end
+    (λ c κs. search (write-cases, needs))  -- first-size-requires
+    (λ c κs. search (write-cases, needs))  -- close-requires
+    (λ c. search (write-cases, needs))  -- add-i
+    (λ c. search (write-cases, needs))  -- add-n
     (λ c. search (write-cases, needs))  -- loop-less
     (λ c. search (write-cases, needs))  -- loop-again
-    (λ c. search (write-cases, needs))  -- enum-told
-    (λ c. search (write-cases, needs))  -- add-close
-    (λ c κs. search (write-cases, needs))  -- close-requires
-    (λ c. search (write-cases, needs))  -- add-closed
-    (λ c κs. search (write-cases, needs))  -- start-requires-2
-    (λ c. search (write-cases, needs))  -- add-j-2
-    (λ c. search (write-cases, needs))  -- loop-less-2
-    (λ c. search (write-cases, needs))  -- loop-again-2
-    (λ c. search (write-cases, needs))  -- add-close-2
-    (λ c κs. search (write-cases, needs))  -- close-requires-2
-    (λ c. search (write-cases, needs))  -- add-result
     (λ c. search (write-cases, needs))  -- same-length
     (λ c. search (write-cases, needs)))

@@ -10,11 +10,9 @@ step-spec =
     (λ c. search (step-cases, needs))  -- sub-far
     (λ c κs. search (step-cases, needs))  -- within-requires
     (λ c κs. search (step-cases, needs))  -- within-requires-2
-    (λ c. search (step-cases, needs))  -- add-t15
-    (λ c κs. search (step-cases, needs))  -- less-requires
+    (λ c κs. search (step-cases, needs))  -- flatter-requires
     (λ c κs. search (step-cases, needs))  -- steeper-requires
-    (λ c κs. search (step-cases, needs))  -- steeper-requires-2
-    (λ c. search (step-cases, needs))  -- add-t15-2
+    (λ c. search (step-cases, needs))  -- add-t13
     (λ c. search (step-cases, needs))  -- returns
     (λ c. search (step-cases, needs))  -- returns-2
     (λ c. search (step-cases, needs)))

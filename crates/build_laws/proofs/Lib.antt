@@ -1,0 +1,4 @@
+pub mod Meaning
+pub mod Cells
+pub mod Outcome
+pub mod Wrong

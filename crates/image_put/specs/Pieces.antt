@@ -1,0 +1,68 @@
+-- The pieces of an image as the writing pass writes them, and the room each asks.
+use mathlib.Core.List.{List, [], _∷_, _++_}
+use Prim.Native.Nat.{ℕ, _+_, _*_, _≤_, _<_}
+use lib.ListN.{length, getD}
+use Rattle.terms.specs.Limits.{bMost, sMost}
+use Rattle.table.specs.Store.{Store}
+use Rattle.table.specs.Limits.{Limits}
+use Rattle.records.specs.Records.{shape, recordBytes, manyBytes}
+use Rattle.records.specs.Images.{partBytes, imageBytes}
+use Rattle.records.specs.First.{first}
+use Rattle.records.specs.Stores.{singlesIn, rowIn, partsIn, imageIn}
+
+unfoldable pub byteBytes : ℕ → List ℕ
+byteBytes x = x ∷ []
+
+unfoldable pub keyBytes : ℕ → ℕ → List ℕ
+keyBytes kind x = recordBytes (shape kind (6 ∷ [])) (x ∷ [])
+
+unfoldable pub keysBytes : ℕ → List ℕ → ℕ → ℕ → List ℕ
+keysBytes kind cells from count = manyBytes (shape kind (6 ∷ [])) (singlesIn cells from count)
+
+unfoldable pub headBytes : ℕ → ℕ → ℕ → ℕ → List ℕ
+headBytes e b n s = recordBytes (first .head) (e ∷ (b ∷ (n ∷ (s ∷ []))))
+
+unfoldable pub segmentBytes : ℕ → ℕ → ℕ → ℕ → ℕ → List ℕ
+segmentBytes x base rise run held = recordBytes (first .segment) (x ∷ (base ∷ (rise ∷ (run ∷ (held ∷ [])))))
+
+unfoldable pub endBytes : List ℕ
+endBytes = recordBytes (first .end) []
+
+unfoldable pub rowBytes : List ℕ → ℕ → List ℕ
+rowBytes t i = recordBytes (first .segment) (rowIn t i)
+
+unfoldable pub pieceBytes : ℕ → List ℕ → List ℕ → ℕ → List ℕ
+pieceBytes b t buffers i = rowBytes t i ++ keysBytes 4 buffers (i * b) (getD t (5 * i + 4) 0)
+
+unfoldable pub piecesBytes : ℕ → List ℕ → List ℕ → ℕ → ℕ → List ℕ
+piecesBytes b t buffers i count = partBytes first (partsIn b t buffers i count)
+
+-- ---- room
+pub record KeysRoom (l : List ℕ) (at kind : ℕ) (cells : List ℕ) (from count : ℕ) : Type 0 where
+  pub space : at + length (keysBytes kind cells from count) ≤ length l
+  pub inside : from + count ≤ length cells
+
+pub record RowRoom (l : List ℕ) (at : ℕ) (t : List ℕ) (i : ℕ) : Type 0 where
+  pub space : at + 18 ≤ length l
+  pub row : 5 * i + 5 ≤ length t
+  pub few : i < sMost
+
+pub record PieceRoom (l : List ℕ) (at b : ℕ) (t buffers : List ℕ) (i : ℕ) : Type 0 where
+  pub space : at + length (pieceBytes b t buffers i) ≤ length l
+  pub row : 5 * i + 5 ≤ length t
+  pub few : i < sMost
+  pub small : b ≤ bMost
+  pub slots : i * b + getD t (5 * i + 4) 0 ≤ length buffers
+
+-- `count` segments from i on, of s
+pub record PiecesRoom (l : List ℕ) (at b : ℕ) (t buffers : List ℕ) (i count : ℕ) : Type 0 where
+  pub space : at + length (piecesBytes b t buffers i count) ≤ length l
+  pub rows : 5 * (i + count) ≤ length t
+  pub few : i + count ≤ sMost
+  pub small : b ≤ bMost
+  pub slots : (j : ℕ) → i ≤ j → j < i + count → j * b + getD t (5 * j + 4) 0 ≤ length buffers
+
+pub record ImageRoom (l : List ℕ) (σ : Store) : Type 0 where
+  pub space : length (imageBytes first (imageIn σ)) ≤ length l
+  pub limits : Limits σ
+  pub slots : (j : ℕ) → j < σ .s → j * σ .b + getD (σ .table) (5 * j + 4) 0 ≤ length (σ .buffers)

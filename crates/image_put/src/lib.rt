@@ -1,0 +1,187 @@
+// The writing pass: the image of a store, first edition, over a slice of bytes. Each function writes the bytes that its promise names over the
+// slice from `at` on, and answers the place after them.
+ghost use mathlib.Core.Path.{_≡_};
+ghost use Prim.Native.Nat.{_+_};
+ghost use lib.ListN.{length};
+ghost use Rattle.table.specs.Store.{storeOf};
+ghost use Rattle.records.specs.Images.{imageBytes};
+ghost use Rattle.records.specs.First.{first};
+ghost use Rattle.records.specs.Stores.{imageIn};
+ghost use Rattle.lists.specs.Over.{over, Space};
+ghost use Rattle.image_put.specs.Pieces.{byteBytes, keyBytes, keysBytes, headBytes, segmentBytes, rowBytes, pieceBytes, piecesBytes, endBytes, KeysRoom, RowRoom, PieceRoom, PiecesRoom, ImageRoom};
+
+// Stored by a call, after which the length of the slice is known.
+fn byte(dst: &mut [u8], at: usize, x: u8)
+    requires { ⌜ Space (now dst) at 1 ⌝ }
+    ensures { λ _. ⌜ now (dst .exit) ≡ over (now (dst .entry)) at (byteBytes x) ⌝ }
+{
+    dst[at] = x;
+}
+
+// A record of one key.
+fn put_key(dst: &mut [u8], at: usize, kind: u8, x: u64) -> usize
+    requires { ⌜ Space (now dst) at 7 ⌝ }
+    ensures place { λ r. ⌜ r ≡ at + length (keyBytes kind x) ⌝ }
+    ensures cells { λ r. ⌜ now (dst .exit) ≡ over (now (dst .entry)) at (keyBytes kind x) ⌝ }
+{
+    byte(dst, at, kind);
+    little::put(dst, at + 1, 6, x);
+    at + 7
+}
+
+// A row of them, of `count` cells.
+fn put_keys(dst: &mut [u8], at: usize, kind: u8, cells: &[u64], from: usize, count: usize) -> usize
+    requires { ⌜ KeysRoom (now dst) at kind (now cells) from count ⌝ }
+    ensures place { λ r. ⌜ r ≡ at + length (keysBytes kind (now (cells .entry)) from count) ⌝ }
+    ensures cells { λ r. ⌜ now (dst .exit) ≡ over (now (dst .entry)) at (keysBytes kind (now (cells .entry)) from count) ⌝ }
+{
+    let mut p = at;
+    let mut i = from;
+    let mut left = count;
+    while 0 < left {
+        p = put_key(dst, p, kind, cells[i]);
+        i += 1;
+        left -= 1;
+    }
+    p
+}
+
+// The head.
+fn put_head(dst: &mut [u8], e: u64, b: u64, n: u64, s: u64) -> usize
+    requires { ⌜ Space (now dst) 0 9 ⌝ }
+    ensures place { λ r. ⌜ r ≡ 0 + length (headBytes e b n s) ⌝ }
+    ensures cells { λ r. ⌜ now (dst .exit) ≡ over (now (dst .entry)) 0 (headBytes e b n s) ⌝ }
+{
+    byte(dst, 0, 1);
+    little::put(dst, 1, 2, e);
+    little::put(dst, 3, 2, b);
+    little::put(dst, 5, 2, n);
+    little::put(dst, 7, 2, s);
+    9
+}
+
+// A segment's record, of its five numbers.
+fn put_segment(
+    dst: &mut [u8],
+    at: usize,
+    first: u64,
+    base: u64,
+    rise: u64,
+    run: u64,
+    held: u64,
+) -> usize
+    requires { ⌜ Space (now dst) at 18 ⌝ }
+    ensures place { λ r. ⌜ r ≡ at + length (segmentBytes first base rise run held) ⌝ }
+    ensures cells { λ r. ⌜ now (dst .exit) ≡ over (now (dst .entry)) at (segmentBytes first base rise run held) ⌝ }
+{
+    byte(dst, at, 3);
+    little::put(dst, at + 1, 6, first);
+    little::put(dst, at + 7, 2, base);
+    little::put(dst, at + 9, 2, rise);
+    little::put(dst, at + 11, 6, run);
+    little::put(dst, at + 17, 1, held);
+    at + 18
+}
+
+// The end.
+fn put_end(dst: &mut [u8], at: usize) -> usize
+    requires { ⌜ Space (now dst) at 1 ⌝ }
+    ensures place { λ r. ⌜ r ≡ at + length endBytes ⌝ }
+    ensures cells { λ r. ⌜ now (dst .exit) ≡ over (now (dst .entry)) at endBytes ⌝ }
+{
+    byte(dst, at, 9);
+    at + 1
+}
+
+// A number of the table as a count.
+fn size(x: u64) -> usize
+    ensures { λ r. ⌜ r ≡ x ⌝ }
+{
+    x as usize
+}
+
+// Segment i's record.
+fn put_row(dst: &mut [u8], at: usize, table: &[u64], i: usize) -> usize
+    requires { ⌜ RowRoom (now dst) at (now table) i ⌝ }
+    ensures place { λ r. ⌜ r ≡ at + length (rowBytes (now (table .entry)) i) ⌝ }
+    ensures cells { λ r. ⌜ now (dst .exit) ≡ over (now (dst .entry)) at (rowBytes (now (table .entry)) i) ⌝ }
+{
+    let first = table[5 * i];
+    let base = table[5 * i + 1];
+    let rise = table[5 * i + 2];
+    let run = table[5 * i + 3];
+    let held = table[5 * i + 4];
+    put_segment(dst, at, first, base, rise, run, held)
+}
+
+// A segment and its buffered keys.
+fn put_piece(dst: &mut [u8], at: usize, b: usize, table: &[u64], buffers: &[u64], i: usize) -> usize
+    requires { ⌜ PieceRoom (now dst) at b (now table) (now buffers) i ⌝ }
+    ensures place { λ r. ⌜ r ≡ at + length (pieceBytes b (now (table .entry)) (now (buffers .entry)) i) ⌝ }
+    ensures cells { λ r. ⌜ now (dst .exit) ≡ over (now (dst .entry)) at (pieceBytes b (now (table .entry)) (now (buffers .entry)) i) ⌝ }
+{
+    let h = size(table[5 * i + 4]);
+    let p = put_row(dst, at, table, i);
+    put_keys(dst, p, 4, buffers, i * b, h)
+}
+
+// All the segments.
+fn put_pieces(
+    dst: &mut [u8],
+    at: usize,
+    b: usize,
+    table: &[u64],
+    buffers: &[u64],
+    s: usize,
+) -> usize
+    requires { ⌜ PiecesRoom (now dst) at b (now table) (now buffers) 0 s ⌝ }
+    ensures place { λ r. ⌜ r ≡ at + length (piecesBytes b (now (table .entry)) (now (buffers .entry)) 0 s) ⌝ }
+    ensures cells { λ r. ⌜ now (dst .exit) ≡ over (now (dst .entry)) at (piecesBytes b (now (table .entry)) (now (buffers .entry)) 0 s) ⌝ }
+{
+    let mut p = at;
+    let mut i = 0;
+    let mut left = s;
+    while 0 < left {
+        p = put_piece(dst, p, b, table, buffers, i);
+        i += 1;
+        left -= 1;
+    }
+    p
+}
+
+// A count as a number.
+fn cell(x: usize) -> u64
+    ensures { λ r. ⌜ r ≡ x ⌝ }
+{
+    x as u64
+}
+
+// The head, of counts.
+fn put_start(dst: &mut [u8], e: usize, b: usize, n: usize, s: usize) -> usize
+    requires { ⌜ Space (now dst) 0 9 ⌝ }
+    ensures place { λ r. ⌜ r ≡ 0 + length (headBytes e b n s) ⌝ }
+    ensures cells { λ r. ⌜ now (dst .exit) ≡ over (now (dst .entry)) 0 (headBytes e b n s) ⌝ }
+{
+    put_head(dst, cell(e), cell(b), cell(n), cell(s))
+}
+
+// The whole image of a store that can be written, over a slice with room for it.
+pub fn put_image(
+    dst: &mut [u8],
+    e: usize,
+    b: usize,
+    n: usize,
+    s: usize,
+    keys: &[u64],
+    table: &[u64],
+    buffers: &[u64],
+) -> usize
+    requires { ⌜ ImageRoom (now dst) (storeOf e b n s (now keys) (now table) (now buffers)) ⌝ }
+    ensures place { λ r. ⌜ r ≡ length (imageBytes first (imageIn (storeOf e b n s (now (keys .entry)) (now (table .entry)) (now (buffers .entry))))) ⌝ }
+    ensures cells { λ r. ⌜ now (dst .exit) ≡ over (now (dst .entry)) 0 (imageBytes first (imageIn (storeOf e b n s (now (keys .entry)) (now (table .entry)) (now (buffers .entry))))) ⌝ }
+{
+    let p = put_start(dst, e, b, n, s);
+    let q = put_keys(dst, p, 2, keys, 0, n);
+    let r = put_pieces(dst, q, b, table, buffers, s);
+    put_end(dst, r)
+}

@@ -1,0 +1,83 @@
+// Reading an image into lent slices. Everything is decided, over the whole image, before a cell is written.
+use image_judge::Judged;
+use terms::Refusal;
+ghost use mathlib.Core.Path.{_≡_};
+ghost use Prim.Native.Nat.{_<_};
+ghost use Rattle.table.specs.Limits.{Counted};
+ghost use Rattle.image_read.specs.Loading.{keysHeld, segmentsHeld, roomedOf, loadOf, keysBy, tableBy, buffersBy};
+
+// What reading answers: e, B, n and s, or a refusal.
+pub enum Loaded {
+    Store {
+        e: usize,
+        b: usize,
+        n: usize,
+        s: usize,
+    },
+    Refused(Refusal),
+}
+
+// Whether there is room for n keys.
+fn keys_held(n: usize, keys: &[u64]) -> bool
+    ensures { λ r. ⌜ r ≡ keysHeld n (now (keys .entry)) ⌝ }
+{
+    n <= table::key_room(keys)
+}
+
+// Whether there is room for s segments.
+fn segments_held(b: usize, s: usize, table: &[u64], buffers: &[u64]) -> bool
+    requires { ⌜ 0 < b ⌝ }
+    ensures { λ r. ⌜ r ≡ segmentsHeld b s (now (table .entry)) (now (buffers .entry)) ⌝ }
+{
+    s <= table::segment_room(b, table, buffers)
+}
+
+// Refusals 6 and 7, for counts within their limits.
+fn roomed(
+    e: usize,
+    b: usize,
+    n: usize,
+    s: usize,
+    keys: &[u64],
+    table: &[u64],
+    buffers: &[u64],
+) -> Loaded
+    requires { ⌜ Counted e b n s ⌝ }
+    ensures { λ r. ⌜ r ≡ roomedOf e b n s (now (keys .entry)) (now (table .entry)) (now (buffers .entry)) ⌝ }
+{
+    if keys_held(n, keys) {
+        if segments_held(b, s, table, buffers) {
+            return Loaded::Store { e, b, n, s };
+        }
+        return Loaded::Refused(Refusal::SegmentRoom);
+    }
+    Loaded::Refused(Refusal::KeyRoom)
+}
+
+// The answer; it reads only.
+fn decide(image: &[u8], keys: &[u64], table: &[u64], buffers: &[u64]) -> Loaded
+    ensures { λ r. ⌜ r ≡ loadOf (now (image .entry)) (now (keys .entry)) (now (table .entry)) (now (buffers .entry)) ⌝ }
+{
+    let a = image_judge::judge(image);
+    match a {
+        Judged::Well { e, b, n, s } => roomed(e, b, n, s, keys, table, buffers),
+        Judged::Refused(r) => Loaded::Refused(r),
+    }
+}
+
+// Reads an image of the first edition into the slices: refusals 10 (head), 1, 10 (rest), 6, 7; else exactly the used cells are set.
+pub fn read_image(image: &[u8], keys: &mut [u64], table: &mut [u64], buffers: &mut [u64]) -> Loaded
+    ensures answered { λ r. ⌜ r ≡ loadOf (now (image .entry)) (now (keys .entry)) (now (table .entry)) (now (buffers .entry)) ⌝ }
+    ensures keys { λ r. ⌜ now (keys .exit) ≡ keysBy r (now (image .entry)) (now (keys .entry)) ⌝ }
+    ensures table { λ r. ⌜ now (table .exit) ≡ tableBy r (now (image .entry)) (now (table .entry)) ⌝ }
+    ensures buffers { λ r. ⌜ now (buffers .exit) ≡ buffersBy r (now (image .entry)) (now (buffers .entry)) ⌝ }
+{
+    let a = decide(image, keys, table, buffers);
+    match a {
+        Loaded::Store { e, b, n, s } => {
+            image_fill::fill(image, b, n, s, keys, table, buffers);
+            Loaded::Store { e, b, n, s }
+        }
+        Loaded::Refused(r) => Loaded::Refused(r),
+    }
+}

@@ -1,0 +1,14 @@
+use borrow.Author.Needs.{needs}
+use Rattle.image_write.proofs.Laws.{fitted-cases}
+use Rattle.image_write.proofs.fitted.Statement.{statement}
+use Rattle.image_write.proofs.fitted.Tie as tie
+
+pub fitted-spec : {M : Type 1} → statement M
+fitted-spec =
+    tie.close
+    (tie.spec
+    (λ c. search (fitted-cases, needs))  -- mul-pieces-size
+    (λ c. search (fitted-cases, needs))  -- add-pieces-size
+    (λ c κs. search (fitted-cases, needs))  -- pieces-size-requires
+    (λ c. search (fitted-cases, needs))  -- returns
+    (λ c. search (fitted-cases, needs)))

@@ -1,0 +1,28 @@
+use borrow.Author.Needs.{needs}
+use Rattle.scan.specs.Scan.{failsOf}
+use Rattle.image_write.specs.Writing.{entryFits}
+use mathlib.Core.Path.{_≡_}
+use Prim.Native.Nat.{_-_}
+use Rattle.image_write.proofs.Laws.{entries-cases}
+use Rattle.image_write.proofs.lowest_wrong.Statement.{statement}
+use Rattle.image_write.proofs.lowest_wrong.Tie as tie
+
+abbrev Inv-loop : tie.InvT-loop
+Inv-loop b s table buffers i₀ i = failsOf (entryFits b table buffers) 0 (s - 0) ≡ failsOf (entryFits b table buffers) i (s - i)
+
+abbrev μ-loop : tie.MeasureT-loop
+μ-loop b s table buffers i₀ i = s - i
+
+pub lowest-wrong-spec : {M : Type 1} → statement M
+lowest-wrong-spec =
+    tie.close
+    (tie.spec
+    Inv-loop
+    μ-loop
+    (λ c. search (entries-cases, needs))  -- loop-holds
+    (λ c κs. search (entries-cases, needs))  -- entry-fits-requires
+    (λ c. search (entries-cases, needs))  -- add-i
+    (λ c. search (entries-cases, needs))  -- loop-less
+    (λ c. search (entries-cases, needs))  -- loop-again
+    (λ c. search (entries-cases, needs))  -- returns
+    (λ c. search (entries-cases, needs)))

@@ -1,0 +1,5 @@
+pub mod Records
+pub mod Images
+pub mod Meaning
+pub mod First
+pub mod Stores
