@@ -26,7 +26,7 @@ pub enum Bound {
 }
 
 // Whether a key is above the one before it.
-fn above(before: Bound, k: u64) -> bool
+pub fn above(before: Bound, k: u64) -> bool
     ensures { λ (r : Bool). ⌜ r ≡ aboveOf before k ⌝ }
 {
     match before {

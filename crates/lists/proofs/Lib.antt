@@ -3,3 +3,5 @@ pub mod Lists
 pub mod Rising
 pub mod Merging
 pub mod Over
+pub mod Between
+pub mod Listed

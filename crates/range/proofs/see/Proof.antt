@@ -1,0 +1,14 @@
+use borrow.Author.Needs.{needs}
+use Rattle.range.proofs.Laws.{see-cases}
+use Rattle.range.proofs.see.Statement.{statement}
+use Rattle.range.proofs.see.Tie as tie
+
+pub see-spec : {M : Type 1} → statement M
+see-spec =
+    tie.close
+    (tie.spec
+    (λ c κs. search (see-cases, needs))  -- entry-at-requires
+    (λ c κs. search (see-cases, needs))  -- damaged-requires
+    (λ c. search (see-cases, needs))  -- returns
+    (λ c κs. search (see-cases, needs))  -- walk-parts-requires
+    (λ c. search (see-cases, needs)))

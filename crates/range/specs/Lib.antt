@@ -1,0 +1,3 @@
+pub mod Stretch
+pub mod Range
+pub mod Asks

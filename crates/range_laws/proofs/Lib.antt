@@ -1,0 +1,4 @@
+pub mod Follows
+pub mod Meaning
+pub mod Outcome
+pub mod Vectors

@@ -1,0 +1,1 @@
+// No code: what range's answers mean, and the theorems about them.
