@@ -1,0 +1,475 @@
+// Sequences of calls: on stores that were built and grow by inserts, then on the same with cells, counts and lengths gone wrong; and on small stores
+// whose numbers are all drawn.
+use crate::dice::dice;
+use crate::dice::wild;
+use crate::draws;
+use crate::pairs;
+use crate::sides::Shape;
+use plain::cells::above;
+use plain::cells::at;
+use plain::cells::product;
+use plain::cells::put;
+use plain::cells::put_byte;
+use plain::cells::sum;
+
+// A key to ask for: stored, beside one, buffered, between, or any.
+fn some_key(round: u64, step: u64, n: u64, keys: &[u64], slots: &[u64]) -> u64 {
+    let near = at(keys, dice(round, sum(step, 1), n));
+    let kind = dice(round, step, 10);
+    match kind {
+        0 => near,
+        1 => near,
+        2 => sum(near, 1),
+        3 => above(near, 1),
+        4 => at(slots, dice(round, sum(step, 2), 64)),
+        5 => sum(near, dice(round, sum(step, 2), 1000000)),
+        6 => sum(near, dice(round, sum(step, 2), 20)),
+        7 => dice(round, sum(step, 2), sum(near, 1)),
+        8 => dice(round, sum(step, 2), 17592186044416),
+        _ => wild(round, step),
+    }
+}
+
+// The shape with, one time in four, one of its numbers gone wrong.
+fn bent(round: u64, step: u64, x: Shape) -> Shape {
+    let mut y = x;
+    let kind = dice(round, step, 28);
+    let other = wild(round, sum(step, 1));
+    match kind {
+        0 => {
+            y.e = other;
+        }
+        1 => {
+            y.b = other;
+        }
+        2 => {
+            y.n = other;
+        }
+        3 => {
+            y.s = other;
+        }
+        4 => {
+            y.keys = (other % 300) as usize;
+        }
+        5 => {
+            y.table = (other % 330) as usize;
+        }
+        6 => {
+            y.slots = (other % 520) as usize;
+        }
+        _ => {}
+    }
+    y
+}
+
+pub fn lookups(
+    round: u64,
+    x: Shape,
+    keys: &[u64; 256],
+    table: &[u64; 320],
+    slots: &[u64; 512],
+    tally: &mut [u64; 32],
+    count: u64,
+) {
+    for i in 0..count {
+        let step = sum(4000, product(i, 8));
+        let key = some_key(round, step, x.n, keys, slots);
+        let y = bent(round, sum(step, 4), x);
+        pairs::lookup(round, y, keys, table, slots, key, tally);
+    }
+}
+
+fn range_of(
+    round: u64,
+    step: u64,
+    x: Shape,
+    keys: &[u64; 256],
+    table: &[u64; 320],
+    slots: &[u64; 512],
+    tally: &mut [u64; 32],
+) {
+    let low = some_key(round, step, x.n, keys, slots);
+    let high = some_key(round, sum(step, 4), x.n, keys, slots);
+    let a = pairs::range(round, x, keys, table, slots, low, high, 512, tally);
+    pairs::range(round, x, keys, table, slots, high, low, 512, tally);
+    pairs::range(
+        round,
+        x,
+        keys,
+        table,
+        slots,
+        low,
+        high,
+        (a[3] % 513) as usize,
+        tally,
+    );
+    pairs::range(
+        round,
+        x,
+        keys,
+        table,
+        slots,
+        low,
+        high,
+        (above(a[3], 1) % 513) as usize,
+        tally,
+    );
+}
+
+pub fn ranges(
+    round: u64,
+    x: Shape,
+    keys: &[u64; 256],
+    table: &[u64; 320],
+    slots: &[u64; 512],
+    tally: &mut [u64; 32],
+    count: u64,
+) {
+    pairs::range(round, x, keys, table, slots, 0, 17592186044415, 512, tally);
+    for i in 0..count {
+        let step = sum(6000, product(i, 16));
+        let y = bent(round, sum(step, 8), x);
+        range_of(round, step, y, keys, table, slots, tally);
+    }
+}
+
+// A byte of an image gone wrong: a low one most often, or the kind of some record.
+fn hurt_byte(round: u64, step: u64, image: &mut [u8], length: u64) {
+    let place = dice(round, step, sum(length, 1));
+    let head = dice(round, step, 9);
+    let kind = dice(round, sum(step, 1), 4);
+    match kind {
+        0 => put_byte(image, place, dice(round, sum(step, 2), 10)),
+        1 => put_byte(image, place, dice(round, sum(step, 2), 256)),
+        2 => put_byte(image, head, dice(round, sum(step, 2), 12)),
+        _ => put_byte(
+            image,
+            above(length, sum(1, dice(round, sum(step, 2), 30))),
+            dice(round, sum(step, 3), 10),
+        ),
+    }
+}
+
+// A length to read: the image's, or another.
+fn some_length(round: u64, step: u64, length: u64) -> usize {
+    let kind = dice(round, step, 5);
+    match kind {
+        0 => (dice(round, sum(step, 1), sum(length, 2)) % 6601) as usize,
+        1 => (sum(length, 1) % 6601) as usize,
+        _ => (length % 6601) as usize,
+    }
+}
+
+fn hurt_reads(round: u64, x: Shape, image: &mut [u8; 6600], length: u64, tally: &mut [u64; 32]) {
+    let mut keys = [7u64; 256];
+    let mut table = [8u64; 320];
+    let mut slots = [9u64; 512];
+    for i in 0..6 {
+        let step = sum(7000, product(i, 16));
+        let y = bent(round, sum(step, 8), x);
+        let l = some_length(round, step, length);
+        pairs::read(round, y, image, l, &mut keys, &mut table, &mut slots, tally);
+        hurt_byte(round, sum(step, 2), image, length);
+    }
+}
+
+pub fn images(
+    round: u64,
+    x: Shape,
+    keys: &[u64; 256],
+    table: &[u64; 320],
+    slots: &[u64; 512],
+    tally: &mut [u64; 32],
+) {
+    let mut image = [170u8; 6600];
+    let y = bent(round, 7900, x);
+    pairs::write(round, y, keys, table, slots, &mut image, 6600, tally);
+    let a = pairs::write(round, x, keys, table, slots, &mut image, 6600, tally);
+    pairs::write(
+        round,
+        x,
+        keys,
+        table,
+        slots,
+        &mut image,
+        (a[3] % 6601) as usize,
+        tally,
+    );
+    pairs::write(
+        round,
+        x,
+        keys,
+        table,
+        slots,
+        &mut image,
+        (above(a[3], 1) % 6601) as usize,
+        tally,
+    );
+    hurt_reads(round, x, &mut image, a[3], tally);
+}
+
+// Cell p of some cells gone wrong: any number, that of another cell, or one beside it.
+fn hurt_cell(round: u64, step: u64, cells: &mut [u64], p: u64, among: u64) {
+    let kind = dice(round, step, 5);
+    let x = at(cells, p);
+    let other = at(cells, dice(round, sum(step, 1), among));
+    match kind {
+        0 => put(cells, p, wild(round, sum(step, 2))),
+        1 => put(cells, p, other),
+        2 => put(cells, p, sum(x, 1)),
+        3 => put(cells, p, above(x, 1)),
+        _ => put(cells, p, sum(x, dice(round, sum(step, 3), 40))),
+    }
+}
+
+// One cell of the store gone wrong.
+fn hurt(
+    round: u64,
+    step: u64,
+    x: Shape,
+    keys: &mut [u64; 256],
+    table: &mut [u64; 320],
+    slots: &mut [u64; 512],
+) {
+    let kind = dice(round, step, 6);
+    if kind == 0 {
+        hurt_cell(
+            round,
+            sum(step, 1),
+            keys,
+            dice(round, sum(step, 5), x.n),
+            x.n,
+        );
+        return;
+    }
+    if kind == 1 {
+        let used = product(x.s, x.b);
+        hurt_cell(
+            round,
+            sum(step, 1),
+            slots,
+            dice(round, sum(step, 5), used),
+            used,
+        );
+        return;
+    }
+    let cells = product(x.s, 5);
+    hurt_cell(
+        round,
+        sum(step, 1),
+        table,
+        dice(round, sum(step, 5), cells),
+        cells,
+    );
+}
+
+// Everything that does not change the store.
+fn reads(
+    round: u64,
+    x: Shape,
+    keys: &[u64; 256],
+    table: &[u64; 320],
+    slots: &[u64; 512],
+    tally: &mut [u64; 32],
+    count: u64,
+) {
+    let y = bent(round, 8900, x);
+    pairs::check(round, x, keys, table, slots, tally);
+    pairs::check(round, y, keys, table, slots, tally);
+    lookups(round, x, keys, table, slots, tally, count);
+    ranges(round, x, keys, table, slots, tally, count / 4);
+}
+
+// The shape after a call of insert.
+fn grown(x: Shape, a: [u64; 8]) -> Shape {
+    if a[0] == 0 {
+        if a[2] == 2 {
+            return Shape {
+                e: x.e,
+                b: x.b,
+                n: a[5],
+                s: a[6],
+                keys: x.keys,
+                table: x.table,
+                slots: x.slots,
+            };
+        }
+    }
+    x
+}
+
+fn inserts(
+    round: u64,
+    start: Shape,
+    keys: &mut [u64; 256],
+    table: &mut [u64; 320],
+    slots: &mut [u64; 512],
+    tally: &mut [u64; 32],
+    count: u64,
+) -> Shape {
+    let mut x = start;
+    for i in 0..count {
+        let key = some_key(round, sum(10000, product(i, 8)), x.n, keys, slots);
+        let a = pairs::insert(round, x, keys, table, slots, key, tally);
+        x = grown(x, a);
+    }
+    x
+}
+
+// One insert with, it may be, a wrong number or length; what it accepted is the store from then on.
+fn bent_insert(
+    round: u64,
+    step: u64,
+    x: Shape,
+    keys: &mut [u64; 256],
+    table: &mut [u64; 320],
+    slots: &mut [u64; 512],
+    tally: &mut [u64; 32],
+) -> Shape {
+    let key = some_key(round, step, x.n, keys, slots);
+    let y = bent(round, sum(step, 5), x);
+    let a = pairs::insert(round, y, keys, table, slots, key, tally);
+    if a[0] == 0 {
+        return grown(y, a);
+    }
+    x
+}
+
+// The store goes wrong more and more; every call is made on it each time.
+fn hurt_calls(
+    round: u64,
+    start: Shape,
+    keys: &mut [u64; 256],
+    table: &mut [u64; 320],
+    slots: &mut [u64; 512],
+    tally: &mut [u64; 32],
+    count: u64,
+) {
+    let mut x = start;
+    for i in 0..count {
+        let here = sum(product(round, 64), i);
+        hurt(here, 20000, x, keys, table, slots);
+        reads(here, x, keys, table, slots, tally, 6);
+        x = bent_insert(here, 20100, x, keys, table, slots, tally);
+        x = bent_insert(here, 20200, x, keys, table, slots, tally);
+        x = inserts(here, x, keys, table, slots, tally, 3);
+        images(here, x, keys, table, slots, tally);
+    }
+}
+
+// Builds that are refused, and some that are not, of keys and numbers gone wrong.
+fn hurt_builds(round: u64, x: Shape, given: [u64; 256], slots: &[u64; 512], tally: &mut [u64; 32]) {
+    let mut keys = given;
+    let mut table = [8u64; 320];
+    for i in 0..4 {
+        let step = sum(9000, product(i, 16));
+        let y = bent(round, step, x);
+        pairs::build(round, y, &keys, &mut table, slots, tally);
+        hurt_cell(
+            round,
+            sum(step, 4),
+            &mut keys,
+            dice(round, sum(step, 9), x.n),
+            x.n,
+        );
+    }
+}
+
+fn with_counts(x: Shape, n: u64, s: u64) -> Shape {
+    Shape {
+        e: x.e,
+        b: x.b,
+        n,
+        s,
+        keys: x.keys,
+        table: x.table,
+        slots: x.slots,
+    }
+}
+
+// A list cut, grown, read, written, and then gone wrong.
+pub fn built_round(round: u64, tally: &mut [u64; 32]) {
+    let mut keys = [7u64; 256];
+    let mut table = [8u64; 320];
+    let mut slots = [9u64; 512];
+    let most = sum(1, dice(round, 2100, 140));
+    let n = draws::draw_keys(round, round % 8, &mut keys, most);
+    let x = with_counts(draws::draw_shape(round), n, 1);
+    hurt_builds(round, x, keys, &slots, tally);
+    let a = pairs::build(round, x, &keys, &mut table, &slots, tally);
+    if 0 < a[0] {
+        return;
+    }
+    grow(
+        round,
+        with_counts(x, n, a[3]),
+        &mut keys,
+        &mut table,
+        &mut slots,
+        tally,
+    );
+}
+
+fn grow(
+    round: u64,
+    x: Shape,
+    keys: &mut [u64; 256],
+    table: &mut [u64; 320],
+    slots: &mut [u64; 512],
+    tally: &mut [u64; 32],
+) {
+    reads(round, x, keys, table, slots, tally, 4);
+    let y = inserts(round, x, keys, table, slots, tally, 60);
+    reads(sum(round, 1000000), y, keys, table, slots, tally, 12);
+    images(round, y, keys, table, slots, tally);
+    hurt_calls(round, y, keys, table, slots, tally, 3);
+}
+
+// The keys of a small store: any; sorted; or rising. Their number.
+fn small_keys(round: u64, lot: u64, keys: &mut [u64], n: u64) -> u64 {
+    draws::scatter(round, 3100, keys, 14);
+    match lot {
+        0 => n,
+        1 => {
+            draws::sort(keys, n);
+            n
+        }
+        _ => draws::draw_keys(round, 7, keys, n),
+    }
+}
+
+fn small_entries(round: u64, lot: u64, keys: &[u64], table: &mut [u64], x: Shape) {
+    draws::small_table(round, table, x.s, x.b);
+    if lot < 3 {
+        return;
+    }
+    draws::sound_bases(round, keys, table, x.s);
+}
+
+// A small store whose numbers are all drawn, some of them as a sound store has them.
+pub fn small_round(round: u64, tally: &mut [u64; 32]) {
+    let mut keys = [7u64; 256];
+    let mut table = [8u64; 320];
+    let mut slots = [9u64; 512];
+    let y = draws::small_shape(round);
+    let lot = dice(round, 3900, 8);
+    draws::scatter(round, 3200, &mut slots, 16);
+    let n = small_keys(round, lot, &mut keys, y.n);
+    let x = with_counts(y, n, y.s);
+    small_entries(round, lot, &keys, &mut table, x);
+    small_calls(round, x, &mut keys, &mut table, &mut slots, tally);
+}
+
+fn small_calls(
+    round: u64,
+    x: Shape,
+    keys: &mut [u64; 256],
+    table: &mut [u64; 320],
+    slots: &mut [u64; 512],
+    tally: &mut [u64; 32],
+) {
+    reads(round, x, keys, table, slots, tally, 4);
+    let y = inserts(round, x, keys, table, slots, tally, 6);
+    reads(sum(round, 1000000), y, keys, table, slots, tally, 4);
+    images(round, y, keys, table, slots, tally);
+}
