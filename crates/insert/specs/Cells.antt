@@ -1,9 +1,8 @@
 -- What an insert leaves in the three slices, every cell of them, by its answer; and the store that they then are.
-use mathlib.Core.List.{List, [], _∷_, _++_}
-use Prim.Native.Nat.{ℕ, zero, suc, _+_, _-_, _*_}
-use lib.ListN.{getD, take, drop, set}
+use mathlib.Core.List.{List, _++_}
+use Prim.Native.Nat.{ℕ, _+_, _-_, _*_}
+use lib.ListN.{take, drop, set}
 use Rattle.lists.specs.Merge.{insertSorted}
-use Rattle.terms.specs.declared.Refusal.{Refusal}
 use Rattle.table.specs.Store.{Store, storeOf}
 use Rattle.table.specs.Entries.{entryIn}
 use Rattle.cone.specs.Rule.{cut}
@@ -11,6 +10,9 @@ use Rattle.cutting.specs.Rows.{rowsOf}
 use Rattle.insert.specs.declared.Inserted.{Inserted}
 use Rattle.insert.specs.declared.Inserted.the-variants.{Buffered, Merged, Refused}
 use Rattle.insert.specs.Insert.{mergedWith}
+-- the later entries and the later used slots, as they are moved
+unfoldable pub use Rattle.moves.specs.Tail.{raised}
+unfoldable pub use Rattle.moves.specs.Slots.{heldOf, laid}
 
 -- ---- buffered: "k goes to its rising place in the used slots and held grows by one"
 
@@ -26,29 +28,12 @@ mergedKeys σ i k =
     take (entryIn σ i .base .0) (σ .keys) ++
     (mergedWith σ i k ++ (take (σ .n - entryIn σ i .end .0) (drop (entryIn σ i .end .0) (σ .keys)) ++ drop (σ .n + σ .b) (σ .keys)))
 
--- "later entries move .., their bases grow by B": the first c entries of these cells, with `by` more in each base
-unfoldable pub raised : ℕ → ℕ → List ℕ → List ℕ
-raised zero by cells = []
-raised (suc c) by cells =
-    getD cells 0 0 ∷ ((getD cells 1 0 + by) ∷ (getD cells 2 0 ∷ (getD cells 3 0 ∷ (getD cells 4 0 ∷ raised c by (drop 5 cells)))))
-
 -- "the t new segments replace the old one; later entries move by t−1 places"; cells past the new count stay
 unfoldable pub mergedTable : Store → ℕ → ℕ → ℕ → List ℕ
 mergedTable σ i k t =
     take (5 * i) (σ .table) ++
     (rowsOf (entryIn σ i .base .0) (cut (σ .e) (mergedWith σ i k)) ++
     (raised (σ .s - (i + 1)) (σ .b) (drop (5 * (i + 1)) (σ .table)) ++ drop (5 * (σ .s - 1 + t)) (σ .table)))
-
--- how many slots each of the first c entries of these cells holds
-unfoldable pub heldOf : ℕ → List ℕ → List ℕ
-heldOf zero cells = []
-heldOf (suc c) cells = getD cells 4 0 ∷ heldOf c (drop 5 cells)
-
--- per segment of b cells the used ones of `from`, as counted, over those of `onto`: "their used buffer slots move with them"; "cells not
--- written keep their bytes"
-unfoldable pub laid : ℕ → List ℕ → List ℕ → List ℕ → List ℕ
-laid b [] from onto = onto
-laid b (h ∷ hs) from onto = take h from ++ (take (b - h) (drop h onto) ++ laid b hs (drop b from) (drop b onto))
 
 -- the slots below those of the first later segment stay: "a moved segment's old slots are not cleared"
 unfoldable pub mergedSlots : Store → ℕ → ℕ → List ℕ

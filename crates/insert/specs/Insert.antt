@@ -8,7 +8,6 @@ use Rattle.lists.specs.Tests.{pick, both}
 use Rattle.lists.specs.Rising.{upOf}
 use Rattle.lists.specs.Merge.{merge, insertSorted, placeOf}
 use Rattle.terms.specs.Limits.{keyLimit, keyOf}
-use Rattle.terms.specs.declared.Refusal.{Refusal}
 use Rattle.terms.specs.declared.Refusal.the-variants.{Limits, LargeKey, Present, KeyRoom, SegmentRoom, StoreWrong}
 use Rattle.table.specs.Store.{Store}
 use Rattle.table.specs.Limits.{limitedOf, keyRoom, segmentRoom}

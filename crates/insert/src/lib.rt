@@ -1,5 +1,21 @@
 // Insert: a key goes into the buffer of its segment, or the segment is merged and cut again. What it refuses it leaves as it was.
+use lookup::Looked;
+use merging::Cutting;
+use scan::Found;
+use terms::Entry;
+use terms::Key;
+use terms::Pos;
 use terms::Refusal;
+ghost use mathlib.Core.Path.{_≡_};
+ghost use mathlib.Core.Bool.{Bool};
+ghost use Prim.Native.Nat.{_+_, _*_};
+ghost use lib.ListN.{getD, set};
+ghost use Rattle.table.specs.Store.{storeOf};
+ghost use Rattle.table.specs.Entries.{Row, usedOf};
+ghost use Rattle.insert.specs.Insert.{insertOf, placedFor, mergeFor};
+ghost use Rattle.insert.specs.Cells.{putSlots, mergedKeys, mergedTable, mergedSlots, keysBy, tableBy, buffersBy};
+ghost use Rattle.insert.specs.Decide.{passesOf, laterOf, roomedOf, soundFor, chosenFor, Counts, Keyed, Picked, Asked, Fitting, Crowded};
+ghost use Rattle.insert.specs.Write.{Holding, joinedKeys, Joinable, slotsUp, SlotsLater, rowsUp, RowsLater, Later, recutTable, Recuttable, Mergeable};
 
 pub enum Inserted {
     // into the buffer of a segment, at this slot
@@ -15,4 +31,377 @@ pub enum Inserted {
         s: usize,
     },
     Refused(Refusal),
+}
+
+// ---- what is decided before anything is written
+
+// Whether entry j lets a merge before it pass.
+fn passes(b: usize, n: usize, s: usize, table: &[u64], j: usize) -> bool
+    requires { ⌜ Row (now table) s j ⌝ }
+    ensures { λ (r : Bool). ⌜ r ≡ passesOf b n (now (table .entry)) j ⌝ }
+{
+    let at = 5 * j;
+    if table[at + 1] <= n as u64 {
+        return table[at + 4] < b as u64;
+    }
+    false
+}
+
+// The lowest entry after i that does not.
+fn lowest_later(b: usize, n: usize, s: usize, table: &[u64], i: usize) -> Found
+    requires { ⌜ Row (now table) s i ⌝ }
+    ensures { λ r. ⌜ r ≡ laterOf b n s (now (table .entry)) i ⌝ }
+{
+    let mut j = i + 1;
+    while j < s {
+        if passes(b, n, s, table, j) {
+            j += 1;
+        } else {
+            return Found::At(j);
+        }
+    }
+    Found::Nothing
+}
+
+// Whether there is room for t segments in the place of one.
+fn roomed(
+    b: usize,
+    n: usize,
+    s: usize,
+    table: &[u64],
+    buffers: &[u64],
+    i: usize,
+    t: usize,
+) -> Inserted
+    requires { ⌜ Counts b n s t ⌝ }
+    ensures { λ r. ⌜ r ≡ roomedOf b n s (now (table .entry)) (now (buffers .entry)) i t ⌝ }
+{
+    let grown = s - 1 + t;
+    let room = table::segment_room(b, table, buffers);
+    if grown <= room {
+        return Inserted::Merged {
+            segment: i,
+            pieces: t,
+            n: n + b,
+            s: grown,
+        };
+    }
+    Inserted::Refused(Refusal::SegmentRoom)
+}
+
+// A merge is due, and the key slice has room for it.
+fn fitting(
+    e: usize,
+    b: usize,
+    n: usize,
+    s: usize,
+    keys: &[u64],
+    table: &[u64],
+    buffers: &[u64],
+    x: Entry,
+    i: usize,
+    k: u64,
+) -> Inserted
+    requires { ⌜ Fitting (storeOf e b n s (now keys) (now table) (now buffers)) x i ⌝ }
+    ensures { λ r. ⌜ r ≡ mergeFor (storeOf e b n s (now (keys .entry)) (now (table .entry)) (now (buffers .entry))) i k ⌝ }
+{
+    let base = x.base.0;
+    let end = x.end.0;
+    let at = i * b;
+    let to = at + x.held;
+    let cutting = merging::pieces(e, &keys[base..end], &buffers[at..to], k);
+    match cutting {
+        Cutting::Pieces(t) => {
+            let later = lowest_later(b, n, s, table, i);
+            match later {
+                Found::At(j) => Inserted::Refused(Refusal::StoreWrong(j)),
+                Found::Nothing => roomed(b, n, s, table, buffers, i, t),
+            }
+        }
+        Cutting::Unruly => Inserted::Refused(Refusal::StoreWrong(i)),
+    }
+}
+
+// A merge is due, and the key slice has no room for it: other refusals still come first.
+fn crowded(
+    e: usize,
+    b: usize,
+    n: usize,
+    s: usize,
+    keys: &[u64],
+    table: &[u64],
+    buffers: &[u64],
+    x: Entry,
+    i: usize,
+    k: u64,
+) -> Inserted
+    requires { ⌜ Crowded (storeOf e b n s (now keys) (now table) (now buffers)) x i ⌝ }
+    ensures { λ r. ⌜ r ≡ mergeFor (storeOf e b n s (now (keys .entry)) (now (table .entry)) (now (buffers .entry))) i k ⌝ }
+{
+    let base = x.base.0;
+    let end = x.end.0;
+    let at = i * b;
+    let to = at + x.held;
+    if merging::rises(&keys[base..end], &buffers[at..to], k) {
+        let later = lowest_later(b, n, s, table, i);
+        match later {
+            Found::At(j) => {
+                return Inserted::Refused(Refusal::StoreWrong(j));
+            }
+            Found::Nothing => {
+                return Inserted::Refused(Refusal::KeyRoom);
+            }
+        }
+    }
+    Inserted::Refused(Refusal::StoreWrong(i))
+}
+
+// The key is to be put in: into a free slot, or a merge is due.
+fn placed(
+    e: usize,
+    b: usize,
+    n: usize,
+    s: usize,
+    keys: &[u64],
+    table: &[u64],
+    buffers: &[u64],
+    x: Entry,
+    i: usize,
+    k: u64,
+) -> Inserted
+    requires { ⌜ Picked (storeOf e b n s (now keys) (now table) (now buffers)) x i ⌝ }
+    ensures { λ r. ⌜ r ≡ placedFor (storeOf e b n s (now (keys .entry)) (now (table .entry)) (now (buffers .entry))) i k ⌝ }
+{
+    let held = x.held;
+    if held + 1 < b {
+        let at = i * b;
+        let to = at + held;
+        let slot = moves::place(&buffers[at..to], k);
+        return Inserted::Buffered { segment: i, slot };
+    }
+    let room = table::key_room(keys);
+    if n + b <= room {
+        return fitting(e, b, n, s, keys, table, buffers, x, i, k);
+    }
+    crowded(e, b, n, s, keys, table, buffers, x, i, k)
+}
+
+// The chosen entry is not damaged: its used slots are judged, and k is looked for.
+fn in_sound(
+    e: usize,
+    b: usize,
+    n: usize,
+    s: usize,
+    keys: &[u64],
+    table: &[u64],
+    buffers: &[u64],
+    x: Entry,
+    i: usize,
+    k: u64,
+) -> Inserted
+    requires { ⌜ Asked (storeOf e b n s (now keys) (now table) (now buffers)) x i k ⌝ }
+    ensures { λ r. ⌜ r ≡ soundFor (storeOf e b n s (now (keys .entry)) (now (table .entry)) (now (buffers .entry))) i k ⌝ }
+{
+    let at = i * b;
+    let to = at + x.held;
+    if merging::rising(&buffers[at..to]) {
+        let looked = lookup::in_segment(e, b, keys, buffers, x, i, Key(k));
+        match looked {
+            Looked::InRun(_) => {
+                return Inserted::Refused(Refusal::Present);
+            }
+            Looked::InBuffer { segment, slot } => {
+                return Inserted::Refused(Refusal::Present);
+            }
+            Looked::Absent => {
+                return placed(e, b, n, s, keys, table, buffers, x, i, k);
+            }
+            Looked::Refused(r) => {
+                return Inserted::Refused(r);
+            }
+        }
+    }
+    Inserted::Refused(Refusal::StoreWrong(i))
+}
+
+// The numbers are within their limits, and k is a key: its segment is chosen.
+fn in_chosen(
+    e: usize,
+    b: usize,
+    n: usize,
+    s: usize,
+    keys: &[u64],
+    table: &[u64],
+    buffers: &[u64],
+    k: u64,
+) -> Inserted
+    requires { ⌜ Keyed (storeOf e b n s (now keys) (now table) (now buffers)) k ⌝ }
+    ensures { λ r. ⌜ r ≡ chosenFor (storeOf e b n s (now (keys .entry)) (now (table .entry)) (now (buffers .entry))) k ⌝ }
+{
+    let i = table::choose(table, s, Key(k));
+    let x = table::entry_at(table, n, s, i);
+    if table::damaged(x, b, n) {
+        return Inserted::Refused(Refusal::StoreWrong(i));
+    }
+    in_sound(e, b, n, s, keys, table, buffers, x, i, k)
+}
+
+// The answer. It reads only.
+fn decide(
+    e: usize,
+    b: usize,
+    n: usize,
+    s: usize,
+    keys: &[u64],
+    table: &[u64],
+    buffers: &[u64],
+    k: u64,
+) -> Inserted
+    ensures { λ r. ⌜ r ≡ insertOf (storeOf e b n s (now (keys .entry)) (now (table .entry)) (now (buffers .entry))) k ⌝ }
+{
+    if table::limited(e, b, n, s, keys, table, buffers) {
+        if terms::is_key(k) {
+            return in_chosen(e, b, n, s, keys, table, buffers, k);
+        }
+        return Inserted::Refused(Refusal::LargeKey(Pos(0)));
+    }
+    Inserted::Refused(Refusal::Limits)
+}
+
+// ---- what is then written
+
+// k goes to its place among the used slots of segment i, which holds one more.
+fn hold(b: usize, table: &mut [u64], buffers: &mut [u64], i: usize, slot: usize, k: u64)
+    requires { ⌜ Holding b (now table) (now buffers) i slot k ⌝ }
+    ensures table { λ _. ⌜ now (table .exit) ≡ set (now (table .entry)) (5 * i + 4) (getD (now (table .entry)) (5 * i + 4) 0 + 1) ⌝ }
+    ensures buffers { λ _. ⌜ now (buffers .exit) ≡ putSlots (i * b) (getD (now (table .entry)) (5 * i + 4) 0) k (now (buffers .entry)) ⌝ }
+{
+    let cell = 5 * i + 4;
+    let held = table[cell];
+    let at = i * b;
+    let to = at + (held as usize + 1);
+    moves::put(&mut buffers[at..to], slot, k);
+    table[cell] = held + 1;
+}
+
+// Run and later keys go up by b together, and the run is merged down with the used slots of segment i and k.
+fn join_keys(b: usize, n: usize, x: Entry, keys: &mut [u64], buffers: &[u64], i: usize, k: u64)
+    requires { ⌜ Joinable b n x (now keys) (now buffers) i ⌝ }
+    ensures { λ _. ⌜ now (keys .exit) ≡ joinedKeys b n x (usedOf b (now (buffers .entry)) i (x .held)) k (now (keys .entry)) ⌝ }
+{
+    let base = x.base.0;
+    let to = x.end.0 + b;
+    let at = i * b;
+    let end = at + x.held;
+    moves::shift_up(keys, base, n - base, b);
+    moves::merge_down(&mut keys[base..to], &buffers[at..end], k);
+}
+
+// The used slots of the segments after i go up by t - 1 segments.
+fn lift_later(b: usize, s: usize, table: &[u64], buffers: &mut [u64], i: usize, t: usize)
+    requires { ⌜ SlotsLater b s (now table) (now buffers) i t ⌝ }
+    ensures { λ _. ⌜ now (buffers .exit) ≡ slotsUp b s (now (table .entry)) i t (now (buffers .entry)) ⌝ }
+{
+    let row = 5 * (i + 1);
+    let from = (i + 1) * b;
+    let count = s - (i + 1);
+    let by = t - 1;
+    moves::lift(&mut buffers[from..], &table[row..], b, count, by);
+}
+
+// The table's tail after entry i is lent on: its entries go up by t - 1 places, and their bases grow by b.
+fn raise_later(b: usize, s: usize, table: &mut [u64], i: usize, t: usize)
+    requires { ⌜ RowsLater b s (now table) i t ⌝ }
+    ensures { λ _. ⌜ now (table .exit) ≡ rowsUp b s i t (now (table .entry)) ⌝ }
+{
+    let row = 5 * (i + 1);
+    let count = s - (i + 1);
+    let by = t - 1;
+    let add = b as u64;
+    moves::raise(&mut table[row..], count, by, add);
+}
+
+// The later segments make room for t in the place of one.
+fn make_room(b: usize, s: usize, table: &mut [u64], buffers: &mut [u64], i: usize, t: usize)
+    requires { ⌜ Later b s (now table) (now buffers) i t ⌝ }
+    ensures table { λ _. ⌜ now (table .exit) ≡ rowsUp b s i t (now (table .entry)) ⌝ }
+    ensures buffers { λ _. ⌜ now (buffers .exit) ≡ slotsUp b s (now (table .entry)) i t (now (buffers .entry)) ⌝ }
+{
+    lift_later(b, s, table, buffers, i, t);
+    raise_later(b, s, table, i, t);
+}
+
+// The merged part of the key slice is cut, and its entries stand in the table from entry i on.
+fn recut(e: usize, b: usize, x: Entry, keys: &[u64], table: &mut [u64], i: usize) -> usize
+    requires { ⌜ Recuttable e b x (now keys) i (now table) ⌝ }
+    ensures { λ _. ⌜ now (table .exit) ≡ recutTable e b x (now (keys .entry)) i (now (table .entry)) ⌝ }
+{
+    let base = x.base.0;
+    let stop = x.end.0 + b;
+    let row = 5 * i;
+    cutting::write_segments(e, &keys[base..stop], base, &mut table[row..])
+}
+
+// The merge of segment i with k, into t segments.
+fn join(
+    e: usize,
+    b: usize,
+    n: usize,
+    s: usize,
+    keys: &mut [u64],
+    table: &mut [u64],
+    buffers: &mut [u64],
+    i: usize,
+    t: usize,
+    k: u64,
+)
+    requires { ⌜ Mergeable (storeOf e b n s (now keys) (now table) (now buffers)) i t k ⌝ }
+    ensures keys { λ _. ⌜ now (keys .exit) ≡ mergedKeys (storeOf e b n s (now (keys .entry)) (now (table .entry)) (now (buffers .entry))) i k ⌝ }
+    ensures table { λ _. ⌜ now (table .exit) ≡ mergedTable (storeOf e b n s (now (keys .entry)) (now (table .entry)) (now (buffers .entry))) i k t ⌝ }
+    ensures buffers { λ _. ⌜ now (buffers .exit) ≡ mergedSlots (storeOf e b n s (now (keys .entry)) (now (table .entry)) (now (buffers .entry))) i t ⌝ }
+{
+    let x = table::entry_at(table, n, s, i);
+    join_keys(b, n, x, keys, buffers, i, k);
+    make_room(b, s, table, buffers, i, t);
+    recut(e, b, x, keys, table, i);
+}
+
+// Inserts k. Refusals in this order: 1, 2, 9 (entry, buffer), 5, 9 (merge), 6, 7.
+pub fn insert(
+    e: usize,
+    b: usize,
+    n: usize,
+    s: usize,
+    keys: &mut [u64],
+    table: &mut [u64],
+    buffers: &mut [u64],
+    k: u64,
+) -> Inserted
+    ensures answered { λ r. ⌜ r ≡ insertOf (storeOf e b n s (now (keys .entry)) (now (table .entry)) (now (buffers .entry))) k ⌝ }
+    ensures keys { λ r. ⌜ now (keys .exit) ≡ keysBy r (storeOf e b n s (now (keys .entry)) (now (table .entry)) (now (buffers .entry))) k ⌝ }
+    ensures table { λ r. ⌜ now (table .exit) ≡ tableBy r (storeOf e b n s (now (keys .entry)) (now (table .entry)) (now (buffers .entry))) k ⌝ }
+    ensures buffers { λ r. ⌜ now (buffers .exit) ≡ buffersBy r (storeOf e b n s (now (keys .entry)) (now (table .entry)) (now (buffers .entry))) k ⌝ }
+{
+    let a = decide(e, b, n, s, keys, table, buffers, k);
+    match a {
+        Inserted::Buffered { segment, slot } => {
+            hold(b, table, buffers, segment, slot, k);
+            Inserted::Buffered { segment, slot }
+        }
+        Inserted::Merged {
+            segment,
+            pieces,
+            n: keys_now,
+            s: segments_now,
+        } => {
+            join(e, b, n, s, keys, table, buffers, segment, pieces, k);
+            Inserted::Merged {
+                segment,
+                pieces,
+                n: keys_now,
+                s: segments_now,
+            }
+        }
+        Inserted::Refused(r) => Inserted::Refused(r),
+    }
 }

@@ -1,6 +1,6 @@
 -- Laws of strictly rising lists.
 -- Assumes nothing.
-use mathlib.Core.Path.{_≡_, refl}
+use mathlib.Core.Path.{_≡_, refl, sym, ap, subst, _∙_}
 use mathlib.Core.Bool.{true}
 use mathlib.Core.List.{List, [], _∷_, _++_}
 use mathlib.Core.Logic.{_⊎_, inl, inr, ⊎-elim}
@@ -138,3 +138,22 @@ true-up lo hi [] u = refl
 true-up lo hi (x ∷ xs) u =
     true-both (both (leb lo x) (ltb x hi)) (upOf (suc x) hi xs) (true-both (leb lo x) (ltb x hi) (le-leb lo x (u .0)) (lt-ltb x hi (u .1 .0)))
     (true-up (suc x) hi xs (u .1 .1))
+
+-- ---- there is one strictly rising list with given members
+
+pub one-rising :
+    (lo hi : ℕ) (xs ys : List ℕ) → Up lo hi xs → Up lo hi ys → ((k : ℕ) → In k xs → In k ys) → ((k : ℕ) → In k ys → In k xs) → xs ≡ ys
+one-rising lo hi [] [] u v f g = refl
+one-rising lo hi [] (y ∷ ys) u v f g = absurd (g y (inl refl))
+one-rising lo hi (x ∷ xs) [] u v f g = absurd (f x (inl refl))
+one-rising lo hi (x ∷ xs) (y ∷ ys) u v f g =
+    let same : x ≡ y = least x y xs ys hi (u .1 .1) (v .1 .1) (f x (inl refl)) (g y (inl refl)) in
+    ap (λ (k : ℕ). k ∷ xs) same
+    ∙ ap (λ (l : List ℕ). y ∷ l)
+    (one-rising (suc x) hi xs ys (u .1 .1) (subst (λ (m : ℕ). Up (suc m) hi ys) (sym same) (v .1 .1))
+    (λ k i. ⊎-elim (λ e. absurd (omega (arith, same, e, in-up (suc x) hi k xs (u .1 .1) i))) (λ j. j) (f k (inr i)))
+    (λ k i. ⊎-elim (λ e. absurd (omega (arith, same, e, in-up (suc y) hi k ys (v .1 .1) i))) (λ j. j) (g k (inr i))))
+  where
+    least : (x y : ℕ) (xs ys : List ℕ) (hi : ℕ) → Up (suc x) hi xs → Up (suc y) hi ys → In x (y ∷ ys) → In y (x ∷ xs) → x ≡ y
+    least x y xs ys hi u v a b =
+        ⊎-elim (λ e. sym e) (λ i. ⊎-elim (λ e. e) (λ j. absurd (omega (arith, in-up (suc y) hi x ys v i, in-up (suc x) hi y xs u j))) b) a

@@ -201,3 +201,35 @@ pub out-is : (σ : Store) (low high m : ℕ) (out : List ℕ) (w : Held σ low h
 out-is σ low high m out w =
     rw (keys-are σ low high (length out) (w .first) (w .last) (w .right .asked), w .number)
     (over-start out (listOf σ low high (w .first) (w .last)) (omega (arith, w .number, w .fits)))
+
+-- ---- and for the refusals that hang on the stretch
+
+wrong-says : (σ : Store) (low high room place : ℕ) {r : Ranged} → Answers σ low high room r → r ≡ Refused (StoreWrong place) → Wrong σ low high place
+wrong-says σ low high room place (listed w) e = absurd (let z : _≡_ {A = ℕ} 0 1 = cc in omega arith)
+wrong-says σ low high room place (refused-1 w) e = absurd (let z : _≡_ {A = ℕ} 0 1 = cc in omega arith)
+wrong-says σ low high room place (refused-2 l h) e = absurd (let z : _≡_ {A = ℕ} 0 1 = cc in omega arith)
+wrong-says σ low high room place (refused-4 l p q h) e = absurd (let z : _≡_ {A = ℕ} 0 1 = cc in omega arith)
+wrong-says σ low high room place (refused-9 {i} w) e = let q : i ≡ place = cc in rw q at w
+wrong-says σ low high room place (refused-8 w) e = absurd (let z : _≡_ {A = ℕ} 0 1 = cc in omega arith)
+
+-- 9 is given at i exactly when none of 1, 2 and 4 is due and i is the lowest segment of the stretch that is wrong
+pub nine-wrong : (σ : Store) (low high room i : ℕ) → rangeOf σ low high room ≡ Refused (StoreWrong i) → Wrong σ low high i
+nine-wrong σ low high room i e = wrong-says σ low high room i (answers σ low high room) e
+
+pub wrong-nine : (σ : Store) (low high room i : ℕ) → Wrong σ low high i → rangeOf σ low high room ≡ Refused (StoreWrong i)
+wrong-nine σ low high room i w = sym (wrong-is σ low high room w)
+
+long-says : (σ : Store) (low high room : ℕ) {r : Ranged} → Answers σ low high room r → r ≡ Refused OutRoom → Long σ low high room
+long-says σ low high room (listed w) e = absurd (let z : _≡_ {A = ℕ} 0 1 = cc in omega arith)
+long-says σ low high room (refused-1 w) e = absurd (let z : _≡_ {A = ℕ} 0 1 = cc in omega arith)
+long-says σ low high room (refused-2 l h) e = absurd (let z : _≡_ {A = ℕ} 0 1 = cc in omega arith)
+long-says σ low high room (refused-4 l p q h) e = absurd (let z : _≡_ {A = ℕ} 0 1 = cc in omega arith)
+long-says σ low high room (refused-9 w) e = absurd (let z : _≡_ {A = ℕ} 0 1 = cc in omega arith)
+long-says σ low high room (refused-8 w) e = w
+
+-- 8 exactly when no segment of the stretch is wrong, and its keys from low to high are more than the out slice holds
+pub eight-long : (σ : Store) (low high room : ℕ) → rangeOf σ low high room ≡ Refused OutRoom → Long σ low high room
+eight-long σ low high room e = long-says σ low high room (answers σ low high room) e
+
+pub long-eight : (σ : Store) (low high room : ℕ) → Long σ low high room → rangeOf σ low high room ≡ Refused OutRoom
+long-eight σ low high room w = sym (long-is σ low high room w)

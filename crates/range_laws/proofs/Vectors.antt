@@ -1,7 +1,7 @@
 -- Range on the store that 01 prints, and on the same store with cells changed.
 -- Assumes nothing.
 use mathlib.Core.Path.{_≡_, refl}
-use mathlib.Core.List.{List, [], _∷_}
+use mathlib.Core.List.{[], _∷_}
 use Prim.Native.Nat.{ℕ}
 use Rattle.lists.specs.Tests.{all, any}
 use Rattle.lists.specs.Merge.{merge}

@@ -3,6 +3,7 @@
 use mathlib.Core.Path.{_≡_, sym, ap, _∙_}
 use mathlib.Core.List.{List}
 use Prim.Native.Nat.{ℕ}
+use lib.ListN.{length}
 use Rattle.terms.specs.declared.Refusal.{Refusal}
 use Rattle.terms.specs.declared.Pos.{Pos}
 use Rattle.terms.specs.Refusals.{numberOf, placeOf}
@@ -16,7 +17,13 @@ use Rattle.judge.specs.Check.{checkOf}
 use Rattle.lookup.specs.declared.Looked.{Looked}
 use Rattle.lookup.specs.declared.Looked.the-variants.{InRun, InBuffer, Absent, Refused as NotLooked}
 use Rattle.lookup.specs.Lookup.{lookupOf}
-use Rattle.readstore.specs.Numbers.{eight, refusalNumbers, builtNumbers, checkedNumbers, lookedNumbers}
+use Rattle.image_write.specs.declared.Written.{Written}
+use Rattle.image_write.specs.declared.Written.the-variants.{Bytes, Refused as NotWritten}
+use Rattle.image_write.specs.Writing.{writeOf, outBy}
+use Rattle.image_read.specs.declared.Loaded.{Loaded}
+use Rattle.image_read.specs.declared.Loaded.the-variants.{Store, Refused as NotLoaded}
+use Rattle.image_read.specs.Loading.{loadOf, keysBy, tableBy as loadedTable, buffersBy}
+use Rattle.readstore.specs.Numbers.{eight, refusalNumbers, builtNumbers, checkedNumbers, lookedNumbers, writtenNumbers, loadedNumbers}
 
 pub refusal-are : (r : Refusal) {m p q : ℕ} → m ≡ numberOf r → p ≡ placeOf r → q ≡ p → eight m q 0 0 0 0 0 0 ≡ refusalNumbers r
 unfolding refusalNumbers
@@ -65,6 +72,28 @@ module _ {a : Looked} where
 
 pub ruleset looked-cases = (looked-absent, looked-run, looked-buffer, looked-refused)
 
+module _ {a : Written} where
+  pub written-bytes : {z w : ℕ} → a ≡ Bytes z → w ≡ z → eight 0 0 0 w 0 0 0 0 ≡ writtenNumbers a
+  unfolding writtenNumbers
+  written-bytes e f = cc
+
+  pub written-refused : {r : Refusal} {l : List ℕ} → a ≡ NotWritten r → l ≡ refusalNumbers r → l ≡ writtenNumbers a
+  unfolding writtenNumbers
+  written-refused e f = cc
+
+pub ruleset written-cases = (written-bytes, written-refused)
+
+module _ {a : Loaded} where
+  pub loaded-store : {e b n s p q r t : ℕ} → a ≡ Store e b n s → p ≡ e → q ≡ b → r ≡ n → t ≡ s → eight 0 0 0 p q r t 0 ≡ loadedNumbers a
+  unfolding loadedNumbers
+  loaded-store x f g h i = cc
+
+  pub loaded-refused : {r : Refusal} {l : List ℕ} → a ≡ NotLoaded r → l ≡ refusalNumbers r → l ≡ loadedNumbers a
+  unfolding loadedNumbers
+  loaded-refused e f = cc
+
+pub ruleset loaded-cases = (loaded-store, loaded-refused)
+
 -- ---- the calls: the caller's numbers are the call's
 
 module _ {e b n f c m : ℕ} (keys table buffers : List ℕ) (pe : f ≡ e) (pb : c ≡ b) (pn : m ≡ n) {a : Built} (call : a ≡ builtOf f c m keys table buffers) where
@@ -82,6 +111,31 @@ module _ {e b n s f c m t : ℕ} (keys table buffers : List ℕ) (pe : f ≡ e) 
 
   pub lookup-answered : (k : ℕ) {a : Looked} {l : List ℕ} → a ≡ lookupOf (storeOf f c m t keys table buffers) k → l ≡ lookedNumbers a → l ≡ lookedNumbers (lookupOf (storeOf e b n s keys table buffers) k)
   lookup-answered k call p = p ∙ ap lookedNumbers (rw (← pe, ← pb, ← pn, ← ps) call)
+
+  module _ (out : List ℕ) {a : Written} (call : a ≡ writeOf (storeOf f c m t keys table buffers) (length out)) where
+    pub write-answered : {l : List ℕ} → l ≡ writtenNumbers a → l ≡ writtenNumbers (writeOf (storeOf e b n s keys table buffers) (length out))
+    write-answered p = p ∙ ap writtenNumbers (rw (← pe, ← pb, ← pn, ← ps) call)
+
+    pub write-written : {after : List ℕ} → after ≡ outBy a (storeOf f c m t keys table buffers) out → after ≡ outBy (writeOf (storeOf e b n s keys table buffers) (length out)) (storeOf e b n s keys table buffers) out
+    write-written p = rw (← pe, ← pb, ← pn, ← ps) (p ∙ ap (λ (x : Written). outBy x (storeOf f c m t keys table buffers) out) call)
+
+pub ruleset write-calls = (write-answered, write-written)
+
+-- reading takes no numbers
+module _ (image keys table buffers : List ℕ) {a : Loaded} (call : a ≡ loadOf image keys table buffers) where
+  pub read-answered : {l : List ℕ} → l ≡ loadedNumbers a → l ≡ loadedNumbers (loadOf image keys table buffers)
+  read-answered p = p ∙ ap loadedNumbers call
+
+  pub read-keys : {after : List ℕ} → after ≡ keysBy a image keys → after ≡ keysBy (loadOf image keys table buffers) image keys
+  read-keys p = p ∙ ap (λ (x : Loaded). keysBy x image keys) call
+
+  pub read-table : {after : List ℕ} → after ≡ loadedTable a image table → after ≡ loadedTable (loadOf image keys table buffers) image table
+  read-table p = p ∙ ap (λ (x : Loaded). loadedTable x image table) call
+
+  pub read-buffers : {after : List ℕ} → after ≡ buffersBy a image buffers → after ≡ buffersBy (loadOf image keys table buffers) image buffers
+  read-buffers p = p ∙ ap (λ (x : Loaded). buffersBy x image buffers) call
+
+pub ruleset read-calls = (read-answered, read-keys, read-table, read-buffers)
 
 pub ruleset check-calls = check-answered
 

@@ -9,6 +9,10 @@ use Rattle.judge.specs.declared.Checked.{Checked}
 use Rattle.judge.specs.declared.Checked.the-variants.{Good, Refused as NotGood}
 use Rattle.lookup.specs.declared.Looked.{Looked}
 use Rattle.lookup.specs.declared.Looked.the-variants.{InRun, InBuffer, Absent, Refused as NotLooked}
+use Rattle.image_write.specs.declared.Written.{Written}
+use Rattle.image_write.specs.declared.Written.the-variants.{Bytes, Refused as NotWritten}
+use Rattle.image_read.specs.declared.Loaded.{Loaded}
+use Rattle.image_read.specs.declared.Loaded.the-variants.{Store, Refused as NotLoaded}
 
 abbrev pub eight : ℕ → ℕ → ℕ → ℕ → ℕ → ℕ → ℕ → ℕ → List ℕ
 eight a b c d e f g h = a ∷ (b ∷ (c ∷ (d ∷ (e ∷ (f ∷ (g ∷ (h ∷ [])))))))
@@ -29,3 +33,11 @@ lookedNumbers Absent = eight 0 0 0 0 0 0 0 0
 lookedNumbers (InRun p) = eight 0 0 1 (p .0) 0 0 0 0
 lookedNumbers (InBuffer i j) = eight 0 0 2 i j 0 0 0
 lookedNumbers (NotLooked r) = refusalNumbers r
+
+unfoldable pub writtenNumbers : Written → List ℕ
+writtenNumbers (Bytes z) = eight 0 0 0 z 0 0 0 0
+writtenNumbers (NotWritten r) = refusalNumbers r
+
+unfoldable pub loadedNumbers : Loaded → List ℕ
+loadedNumbers (Store e b n s) = eight 0 0 0 e b n s 0
+loadedNumbers (NotLoaded r) = refusalNumbers r

@@ -1,15 +1,20 @@
 // The public calls for C and Rust: numbers and slices go in, and each answer comes back as eight numbers that the caller lends:
 // [0] the refusal's number, 0 if accepted; [1] its place; [2] a kind; [3].. values; unused ones 0.
 use build::Built;
+use image_read::Loaded;
+use image_write::Written;
 use judge::Checked;
 use lookup::Looked;
 use terms::Refusal;
 ghost use mathlib.Core.Path.{_≡_};
+ghost use lib.ListN.{length};
 ghost use Rattle.table.specs.Store.{storeOf};
 ghost use Rattle.build.specs.Build.{builtOf, tableBy};
 ghost use Rattle.judge.specs.Check.{checkOf};
 ghost use Rattle.lookup.specs.Lookup.{lookupOf};
-ghost use Rattle.readstore.specs.Numbers.{refusalNumbers, builtNumbers, checkedNumbers, lookedNumbers};
+ghost use Rattle.image_write.specs.Writing.{writeOf, outBy};
+ghost use Rattle.image_read.specs.Loading.{loadOf, keysBy, tableBy as loadedTable, buffersBy};
+ghost use Rattle.readstore.specs.Numbers.{refusalNumbers, builtNumbers, checkedNumbers, lookedNumbers, writtenNumbers, loadedNumbers};
 
 fn size(x: u64) -> usize
     ensures { λ r. ⌜ r ≡ x ⌝ }
@@ -70,6 +75,33 @@ fn looked_numbers(a: Looked) -> [u64; 8]
     }
 }
 
+fn written_numbers(a: Written) -> [u64; 8]
+    ensures { λ r. ⌜ r ≡ writtenNumbers a ⌝ }
+{
+    match a {
+        Written::Bytes(z) => {
+            let bytes = word(z);
+            [0, 0, 0, bytes, 0, 0, 0, 0]
+        }
+        Written::Refused(r) => refusal_numbers(r),
+    }
+}
+
+fn loaded_numbers(a: Loaded) -> [u64; 8]
+    ensures { λ r. ⌜ r ≡ loadedNumbers a ⌝ }
+{
+    match a {
+        Loaded::Store { e, b, n, s } => {
+            let bound = word(e);
+            let slots = word(b);
+            let keys = word(n);
+            let segments = word(s);
+            [0, 0, 0, bound, slots, keys, segments, 0]
+        }
+        Loaded::Refused(r) => refusal_numbers(r),
+    }
+}
+
 // The first n keys are cut with the bound e, and the entries written. [3] is s.
 #[no_mangle]
 pub extern "C" fn readstore_build(
@@ -123,4 +155,51 @@ pub extern "C" fn readstore_lookup(
 {
     let a = lookup::lookup(size(e), size(b), size(n), size(s), keys, table, buffers, k);
     *answer = looked_numbers(a);
+}
+
+// The stored form of the store, from the out slice's start. [3] is its length in bytes.
+#[no_mangle]
+pub extern "C" fn readstore_image_write(
+    keys: &[u64],
+    table: &[u64],
+    buffers: &[u64],
+    e: u64,
+    b: u64,
+    n: u64,
+    s: u64,
+    out: &mut [u8],
+    answer: &mut [u64; 8],
+)
+    ensures answered { λ _. ⌜ now (answer .exit) ≡ writtenNumbers (writeOf (storeOf e b n s (now (keys .entry)) (now (table .entry)) (now (buffers .entry))) (length (now (out .entry)))) ⌝ }
+    ensures written { λ _. ⌜ now (out .exit) ≡ outBy (writeOf (storeOf e b n s (now (keys .entry)) (now (table .entry)) (now (buffers .entry))) (length (now (out .entry)))) (storeOf e b n s (now (keys .entry)) (now (table .entry)) (now (buffers .entry))) (now (out .entry)) ⌝ }
+{
+    let a = image_write::write_image(
+        size(e),
+        size(b),
+        size(n),
+        size(s),
+        keys,
+        table,
+        buffers,
+        out,
+    );
+    *answer = written_numbers(a);
+}
+
+// A stored form read into the slices. [3] is e, [4] B, [5] n, [6] s.
+#[no_mangle]
+pub extern "C" fn readstore_image_read(
+    image: &[u8],
+    keys: &mut [u64],
+    table: &mut [u64],
+    buffers: &mut [u64],
+    answer: &mut [u64; 8],
+)
+    ensures answered { λ _. ⌜ now (answer .exit) ≡ loadedNumbers (loadOf (now (image .entry)) (now (keys .entry)) (now (table .entry)) (now (buffers .entry))) ⌝ }
+    ensures keys { λ _. ⌜ now (keys .exit) ≡ keysBy (loadOf (now (image .entry)) (now (keys .entry)) (now (table .entry)) (now (buffers .entry))) (now (image .entry)) (now (keys .entry)) ⌝ }
+    ensures table { λ _. ⌜ now (table .exit) ≡ loadedTable (loadOf (now (image .entry)) (now (keys .entry)) (now (table .entry)) (now (buffers .entry))) (now (image .entry)) (now (table .entry)) ⌝ }
+    ensures buffers { λ _. ⌜ now (buffers .exit) ≡ buffersBy (loadOf (now (image .entry)) (now (keys .entry)) (now (table .entry)) (now (buffers .entry))) (now (image .entry)) (now (buffers .entry)) ⌝ }
+{
+    let a = image_read::read_image(image, keys, table, buffers);
+    *answer = loaded_numbers(a);
 }

@@ -1,0 +1,15 @@
+use borrow.Author.Needs.{needs}
+use Rattle.insert.proofs.Deciding.{decide-cases}
+use Rattle.insert.proofs.decide.Statement.{statement}
+use Rattle.insert.proofs.decide.Tie as tie
+
+pub decide-spec : {M : Type 1} → statement M
+decide-spec =
+    tie.close
+    (tie.spec
+    (λ c κs. search (decide-cases, needs))  -- limited-requires
+    (λ c κs. search (decide-cases, needs))  -- is-key-requires
+    (λ c κs. search (decide-cases, needs))  -- in-chosen-requires
+    (λ c. search (decide-cases, needs))  -- returns
+    (λ c. search (decide-cases, needs))  -- returns-2
+    (λ c. search (decide-cases, needs)))

@@ -1,0 +1,6 @@
+pub mod Cells
+pub mod Splices
+pub mod Outcome
+pub mod Kept
+pub mod After
+pub mod Built

@@ -1,0 +1,4 @@
+pub mod Outcome
+pub mod Recut
+pub mod After
+pub mod Runs

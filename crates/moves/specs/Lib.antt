@@ -1,0 +1,4 @@
+pub mod Shift
+pub mod Join
+pub mod Tail
+pub mod Slots

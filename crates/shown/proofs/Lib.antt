@@ -1,0 +1,4 @@
+pub mod Shown
+pub mod Accepts
+pub mod Views
+pub mod Found
