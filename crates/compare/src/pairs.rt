@@ -92,7 +92,6 @@ pub fn range(
     a
 }
 
-// The store is changed as the plain side changes it.
 pub fn insert(
     round: u64,
     x: Shape,
@@ -102,8 +101,13 @@ pub fn insert(
     key: u64,
     tally: &mut [u64; 32],
 ) -> [u64; 8] {
+    let mut keys2 = *keys;
+    let mut table2 = *table;
+    let mut slots2 = *slots;
     let a = sides::insert_plain(x, keys, table, slots, key);
-    report(tally, 4, round, a, a, true);
+    let p = sides::insert_plain(x, &mut keys2, &mut table2, &mut slots2, key);
+    let same = same_cells(keys, &keys2) && same_cells(table, &table2) && same_cells(slots, &slots2);
+    report(tally, 4, round, a, p, same);
     a
 }
 

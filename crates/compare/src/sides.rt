@@ -46,7 +46,7 @@ pub fn build_plain(x: Shape, keys: &[u64], table: &mut [u64], slots: &[u64]) -> 
     let t = cap(x.table, table.len());
     let l = cap(x.slots, slots.len());
     let mut entries = [0u64; 1700];
-    plain::cone::build(
+    plain::quadratic::build(
         x.e,
         x.b,
         x.n,
@@ -111,7 +111,7 @@ pub fn lookup_plain(x: Shape, keys: &[u64], table: &[u64], slots: &[u64], key: u
     let k = cap(x.keys, keys.len());
     let t = cap(x.table, table.len());
     let l = cap(x.slots, slots.len());
-    plain::lookup::lookup(
+    plain::looking::lookup(
         x.e,
         x.b,
         x.n,

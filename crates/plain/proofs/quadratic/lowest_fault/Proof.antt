@@ -1,24 +1,24 @@
 use borrow.Author.Needs.{needs}
 use Prim.Native.Nat.{_≤_, _-_}
-use Rattle.plain.proofs.cone.joins.Statement.{statement}
-use Rattle.plain.proofs.cone.joins.Tie as tie
+use Rattle.plain.proofs.quadratic.lowest_fault.Statement.{statement}
+use Rattle.plain.proofs.quadratic.lowest_fault.Tie as tie
 
 abbrev Inv-loop : tie.InvT-loop
-Inv-loop e list i j m₀ m = 0 ≤ m
+Inv-loop keys n p₀ p = 0 ≤ p
 
 abbrev μ-loop : tie.MeasureT-loop
-μ-loop e list i j m₀ m = j - m
+μ-loop keys n p₀ p = n - p
 
-pub joins-spec : {M : Type 1} → statement M
-joins-spec =
+pub lowest-fault-spec : {M : Type 1} → statement M
+lowest-fault-spec =
     tie.close
     (tie.spec
     Inv-loop
     μ-loop
     (λ c. search needs)  -- loop-holds
-    (λ c κs. search needs)  -- near-requires
+    (λ c κs. search needs)  -- fault-requires
     (λ c. search needs)  -- returns
-    (λ c. search needs)  -- add-m
+    (λ c. search needs)  -- add-p
     (λ c. search needs)  -- loop-less
     (λ c. search needs)  -- loop-again
     (λ c. search needs))

@@ -1,7 +1,7 @@
 use borrow.Author.Needs.{needs}
 use Prim.Native.Nat.{_≤_, _-_}
-use Rattle.plain.proofs.lookup.in_slots.Statement.{statement}
-use Rattle.plain.proofs.lookup.in_slots.Tie as tie
+use Rattle.plain.proofs.looking.in_slots.Statement.{statement}
+use Rattle.plain.proofs.looking.in_slots.Tie as tie
 
 abbrev Inv-loop : tie.InvT-loop
 Inv-loop b buffers i k used j₀ j = 0 ≤ j

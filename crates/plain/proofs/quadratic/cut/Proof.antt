@@ -2,8 +2,8 @@ use borrow.Author.Needs.{needs}
 use mathlib.Core.Path.{_≡_}
 use lib.ListN.{length}
 use Prim.Native.Nat.{_-_}
-use Rattle.plain.proofs.cone.cut.Statement.{statement}
-use Rattle.plain.proofs.cone.cut.Tie as tie
+use Rattle.plain.proofs.quadratic.cut.Statement.{statement}
+use Rattle.plain.proofs.quadratic.cut.Tie as tie
 
 abbrev Inv-loop : tie.InvT-loop
 Inv-loop e list m from entries₀ origin₀ t₀ j₀ entries origin t j = length entries ≡ length entries₀
