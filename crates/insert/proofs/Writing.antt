@@ -1,7 +1,7 @@
 -- The cases of the functions that write an insert.
 -- Assumes nothing.
 use mathlib.Core.Path.{_≡_, refl, sym, ap, _∙_}
-use mathlib.Core.List.{List, _++_, append-assoc}
+use mathlib.Core.List.{List, [], _∷_, _++_, append-assoc}
 use Prim.Native.Nat.{ℕ, suc, _+_, _-_, _*_, _≤_, _<_}
 use native.Mathlib.Nat.{mul-le-mul-right, mul-le-mul, add-sub-cancel-left}
 use native.Mathlib.Omega.{arith}
@@ -21,9 +21,10 @@ use Rattle.table.specs.Entries.{Row, entryOf, entryIn, runOf, usedOf}
 use Rattle.table.proofs.Limits.{Holds, room-holds}
 use Rattle.scan.specs.Scan.{noneOf}
 use Rattle.scan.proofs.Meaning.{passes}
-use Rattle.cone.specs.Rule.{cut}
+use Rattle.cone.specs.Rule.{Segment, cut}
+use Rattle.cone.specs.Cover.{Tiled}
 use Rattle.cone.specs.Keys.{Cuttable}
-use Rattle.cone.proofs.Walk.{walk-start, walk-open}
+use Rattle.cone.proofs.Cover.{parted}
 use Rattle.cutting.specs.Rows.{rowsOf}
 use Rattle.lookup.proofs.Laws.{slot-inside}
 use Rattle.moves.specs.Shift.{shiftUp}
@@ -210,6 +211,11 @@ pub ruleset recut-cases = (recut-done)
 
 -- ---- all of it
 
+-- keys are cut into some segment
+tiled-some : (ks : List ℕ) (l : List Segment) → Tiled ks 0 l → 0 < length ks → 0 < length l
+tiled-some ks [] t h = absurd (omega arith)
+tiled-some ks (x ∷ xs) t h = omega arith
+
 module _ (e b n s : ℕ) (keys table buffers : List ℕ) (i t k : ℕ) (asked : Mergeable (storeOf e b n s keys table buffers) i t k) where
   abbrev σ : Store
   σ = storeOf e b n s keys table buffers
@@ -272,7 +278,7 @@ module _ (e b n s : ℕ) (keys table buffers : List ℕ) (i t k : ℕ) (asked : 
   some-pieces : 1 ≤ t
   some-pieces =
       let l : 0 < length (mergedWith σ i k) = omega (arith, joined-length, asked .sound) in
-      omega (arith, asked .pieces, walk-open (walk-start e (mergedWith σ i k) l refl))
+      omega (arith, asked .pieces, tiled-some (mergedWith σ i k) (cut e (mergedWith σ i k)) (parted e (mergedWith σ i k)) l)
 
   join-slots : SlotsLater b s table buffers i t
   join-slots =

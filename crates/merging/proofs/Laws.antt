@@ -157,13 +157,14 @@ pub ruleset pieces-cases = (pieces-none, pieces-large, pieces-begun)
 
 -- ---- counting along it: the walk has come to j, and the cursor has the rest
 
-pub record Counting (e : ℕ) (run used : List ℕ) (k closed : ℕ) (c : Cone) (m : Cursor) : Type 0 where
+pub record Counting (e : ℕ) (run used : List ℕ) (k closed : ℕ) (c : Cone) (m : Cursor) (last : ℕ) : Type 0 where
   pub asked : Judgeable e run used
   pub base : ℕ
   pub come : ℕ
   pub walk : Walk e (merge run (insertSorted k used)) closed base come c
   pub rest : drop come (merge run (insertSorted k used)) ≡ restOf m run used k
-  pub so-far : upOf 0 keyLimit (merge run (insertSorted k used)) ≡ upOf (suc (c .last .0)) keyLimit (restOf m run used k)
+  pub ordered : c .origin .0 ≤ last
+  pub so-far : upOf 0 keyLimit (merge run (insertSorted k used)) ≡ upOf (suc last) keyLimit (restOf m run used k)
 
 module _ (e : ℕ) (run used : List ℕ) (k : ℕ) where
   abbrev keys : List ℕ
@@ -172,7 +173,7 @@ module _ (e : ℕ) (run used : List ℕ) (k : ℕ) where
   few-keys : Judgeable e run used → length keys ≡ length run + (length used + 1)
   few-keys asked = omega (arith, length-merge run (insertSorted k used), length-insert k used)
 
-  pub count-start : (m : Cursor) {x : ℕ} {c : Cone} → Begun e m x run used k → c ≡ startOf x → Counting e run used k 0 c m
+  pub count-start : (m : Cursor) {x : ℕ} {c : Cone} → Begun e m x run used k → c ≡ startOf e x → Counting e run used k 0 c m x
   count-start m {x} begun is =
       let some : 0 < length keys = omega (arith, ap length (begun .first)) in
       let small : ltb x keyLimit ≡ true = lt-ltb _ _ (begun .key) in
@@ -183,19 +184,20 @@ module _ (e : ℕ) (run used : List ℕ) (k : ℕ) where
         come = 1;
         walk = walk-start e keys some (sym (drop-head keys 0 x (restOf m run used k) 0 (begun .first)));
         rest = drop-next keys 0 x (restOf m run used k) (begun .first);
+        ordered = omega arith;
         so-far = ap (upOf 0 keyLimit) (begun .first) ∙ up-on 0 x (restOf m run used k) (first-key x refl) small;
       })
 
-  module _ (closed : ℕ) (c : Cone) (m : Cursor) (w : Counting e run used k closed c m) {n : Next} (is : n ≡ nextOf m run used k) where
+  module _ (closed : ℕ) (c : Cone) (m : Cursor) (last : ℕ) (w : Counting e run used k closed c m last) {n : Next} (is : n ≡ nextOf m run used k) where
     pub count-end : n ≡ Done → Pieces (closed + 1) ≡ piecesOf e (merge run (insertSorted k used))
     unfolding piecesOf upOf
     count-end q =
         let none : restOf m run used k ≡ [] = next-end m run used k (sym is ∙ q) in
-        let up : upOf 0 keyLimit keys ≡ true = w .so-far ∙ ap (upOf (suc (c .last .0)) keyLimit) none in
+        let up : upOf 0 keyLimit keys ≡ true = w .so-far ∙ ap (upOf (suc last) keyLimit) none in
         let over : length keys ≤ w .come = omega (arith, length-drop (w .come) keys, ap length (w .rest ∙ none)) in
         simp up (ap Pieces (walk-counts (w .walk) over))
 
-    module _ {x : ℕ} {past : Cursor} (key : n ≡ Key x past) {r : Bool} (tested : r ≡ afterOf (c .last .0) x) where
+    module _ {x : ℕ} {past : Cursor} (key : n ≡ Key x past) {r : Bool} (tested : r ≡ afterOf last x) where
       heads : drop (w .come) keys ≡ x ∷ restOf past run used k
       heads = w .rest ∙ head-is run used k m is key
 
@@ -203,19 +205,19 @@ module _ (e : ℕ) (run used : List ℕ) (k : ℕ) where
       unfolding piecesOf afterOf
       count-fallen q =
           let up : upOf 0 keyLimit keys ≡ false =
-          w .so-far ∙ ap (upOf (suc (c .last .0)) keyLimit) (head-is run used k m is key) ∙ up-off (suc (c .last .0)) x (restOf past run used k) tested q in
+          w .so-far ∙ ap (upOf (suc last) keyLimit) (head-is run used k m is key) ∙ up-off (suc last) x (restOf past run used k) tested q in
           simp up
 
       module _ (yes : r ≡ true) where
         next : NextKey keys (w .come) c x
         unfolding afterOf
         next =
-            let t : (leb (suc (c .last .0)) x ≡ true) × (ltb x keyLimit ≡ true) = both-true (leb (suc (c .last .0)) x) (ltb x keyLimit) (sym tested ∙ yes) in
+            let t : (leb (suc last) x ≡ true) × (ltb x keyLimit ≡ true) = both-true (leb (suc last) x) (ltb x keyLimit) (sym tested ∙ yes) in
             record {
               more = omega (arith, length-drop (w .come) keys, ap length heads);
               is = sym (drop-head keys (w .come) x (restOf past run used k) 0 heads);
               small = ltb-true _ _ (t .1);
-              after = omega (arith, leb-true (suc (c .last .0)) x (t .0), w .walk .ordered);
+              after = omega (arith, leb-true (suc last) x (t .0), w .ordered);
             }
 
         pub count-ready : Ready e c (record { 0 = x })
@@ -226,10 +228,10 @@ module _ (e : ℕ) (run used : List ℕ) (k : ℕ) where
 
         up-next : upOf 0 keyLimit keys ≡ upOf (suc x) keyLimit (restOf past run used k)
         unfolding afterOf
-        up-next = w .so-far ∙ ap (upOf (suc (c .last .0)) keyLimit) (head-is run used k m is key) ∙ up-on (suc (c .last .0)) x (restOf past run used k) tested yes
+        up-next = w .so-far ∙ ap (upOf (suc last) keyLimit) (head-is run used k m is key) ∙ up-on (suc last) x (restOf past run used k) tested yes
 
         module _ {s : Step} (stepped : s ≡ stepOf e c x) where
-          pub count-joined : {d : Cone} → s ≡ Joined d → Counting e run used k closed d past
+          pub count-joined : {d : Cone} → s ≡ Joined d → Counting e run used k closed d past x
           count-joined {d} q =
               let t : (lets c x ≡ true) × (d ≡ grown e c x) = step-joined e c x stepped q in
               record {
@@ -238,10 +240,11 @@ module _ (e : ℕ) (run used : List ℕ) (k : ℕ) where
                 come = w .come + 1;
                 walk = walk-joined (w .walk) next stepped q;
                 rest = rest-on;
-                so-far = rw (t .1) up-next;
+                ordered = omega (arith, ap (λ (v : Cone). v .origin .0) (t .1), next .after);
+                so-far = up-next;
               }
 
-          pub count-apart : {d : Cone} → s ≡ Apart → d ≡ startOf x → Counting e run used k (closed + 1) d past
+          pub count-apart : {d : Cone} → s ≡ Apart → d ≡ startOf e x → Counting e run used k (closed + 1) d past x
           count-apart q start =
               rw start
               (record {
@@ -250,11 +253,12 @@ module _ (e : ℕ) (run used : List ℕ) (k : ℕ) where
                 come = w .come + 1;
                 walk = walk-apart (w .walk) next stepped q;
                 rest = rest-on;
+                ordered = omega arith;
                 so-far = up-next;
               })
 
-  pub count-small : (closed : ℕ) (c : Cone) (m : Cursor) → Counting e run used k closed c m → Fits w64 (closed + 1)
-  count-small closed c m w = record { fits = omega (arith, w .walk .closed, w .walk .counted, w .walk .inside, few-keys (w .asked), w .asked .few) }
+  pub count-small : (closed : ℕ) (c : Cone) (m : Cursor) (last : ℕ) → Counting e run used k closed c m last → Fits w64 (closed + 1)
+  count-small closed c m last w = record { fits = omega (arith, w .walk .closed, w .walk .segment .counted, w .walk .segment .inside, few-keys (w .asked), w .asked .few) }
 
 pub ruleset count-cases = (count-start, count-small, rest-less, count-end, count-fallen, count-ready, count-joined, count-apart)
 

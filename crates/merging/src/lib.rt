@@ -101,22 +101,24 @@ fn pieces_on(e: usize, start: Cursor, x: u64, run: &[u64], used: &[u64], k: u64)
 {
     let bound = e as u64;
     let mut m = start;
-    let mut cone = Cone::start(Key(x));
+    let mut last = x;
+    let mut cone = Cone::start(bound, Key(x));
     let mut closed: usize = 0;
     loop {
         let n = m.next(run, used, k);
         match n {
             Next::Key(y, past) => {
-                if after(cone.last.0, y) {
+                if after(last, y) {
                     let s = cone.step(bound, Key(y));
                     m = past;
+                    last = y;
                     match s {
                         Step::Joined(c) => {
                             cone = c;
                         }
                         Step::Apart => {
                             closed += 1;
-                            cone = Cone::start(Key(y));
+                            cone = Cone::start(bound, Key(y));
                         }
                     }
                 } else {

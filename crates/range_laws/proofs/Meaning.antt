@@ -17,12 +17,13 @@ use Rattle.table.specs.Store.{Store}
 use Rattle.table.specs.Limits.{Limits, limitedOf}
 use Rattle.table.specs.Chosen.{chosenOf}
 use Rattle.table.proofs.Limits.{limited-true, true-limited}
-use Rattle.table.proofs.Chosen.{chosen-is, one-choice, choice-rises}
+use Rattle.table.proofs.Chosen.{chosen-is, one-choice}
 use Rattle.scan.specs.declared.Found.{Found}
 use Rattle.scan.specs.declared.Found.the-variants.{At, Nothing}
 use Rattle.scan.specs.Scan.{failsOf}
 use Rattle.scan.specs.Meaning.{Scanned}
 use Rattle.scan.proofs.Meaning.{fails-scanned, one-answer}
+use Rattle.stretch.proofs.Stretch.{stretch-forward}
 use Rattle.range.specs.declared.Ranged.{Ranged}
 use Rattle.range.specs.declared.Ranged.the-variants.{Listed, Refused}
 use Rattle.range.specs.Stretch.{fineOf, countedBy, judgedOf}
@@ -35,7 +36,7 @@ use Rattle.range_laws.proofs.Follows.{fine-true, true-fine}
 module _ (σ : Store) (low high room a z : ℕ) (asked : Asked σ low high a z) where
   -- "the stretch never runs backwards", on any table
   pub runs-on : a ≤ z
-  runs-on = choice-rises (σ .table) (σ .s) low high a z (asked .forwards) (asked .from) (asked .to)
+  runs-on = stretch-forward σ low high a z (asked .forwards) (asked .from) (asked .to)
 
   abbrev Fails : ℕ → Type 0
   Fails i = fineOf σ a i ≡ false

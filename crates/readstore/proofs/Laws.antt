@@ -17,13 +17,16 @@ use Rattle.judge.specs.Check.{checkOf}
 use Rattle.lookup.specs.declared.Looked.{Looked}
 use Rattle.lookup.specs.declared.Looked.the-variants.{InRun, InBuffer, Absent, Refused as NotLooked}
 use Rattle.lookup.specs.Lookup.{lookupOf}
+use Rattle.range.specs.declared.Ranged.{Ranged}
+use Rattle.range.specs.declared.Ranged.the-variants.{Listed, Refused as NotListed}
+use Rattle.range.specs.Range.{rangeOf, outBy as rangedOut, keysFrom}
 use Rattle.image_write.specs.declared.Written.{Written}
 use Rattle.image_write.specs.declared.Written.the-variants.{Bytes, Refused as NotWritten}
 use Rattle.image_write.specs.Writing.{writeOf, outBy}
 use Rattle.image_read.specs.declared.Loaded.{Loaded}
 use Rattle.image_read.specs.declared.Loaded.the-variants.{Store, Refused as NotLoaded}
 use Rattle.image_read.specs.Loading.{loadOf, keysBy, tableBy as loadedTable, buffersBy}
-use Rattle.readstore.specs.Numbers.{eight, refusalNumbers, builtNumbers, checkedNumbers, lookedNumbers, writtenNumbers, loadedNumbers}
+use Rattle.readstore.specs.Numbers.{eight, refusalNumbers, builtNumbers, checkedNumbers, lookedNumbers, rangedNumbers, writtenNumbers, loadedNumbers}
 
 pub refusal-are : (r : Refusal) {m p q : ℕ} → m ≡ numberOf r → p ≡ placeOf r → q ≡ p → eight m q 0 0 0 0 0 0 ≡ refusalNumbers r
 unfolding refusalNumbers
@@ -72,6 +75,17 @@ module _ {a : Looked} where
 
 pub ruleset looked-cases = (looked-absent, looked-run, looked-buffer, looked-refused)
 
+module _ {a : Ranged} where
+  pub ranged-listed : {m w : ℕ} → a ≡ Listed m → w ≡ m → eight 0 0 0 w 0 0 0 0 ≡ rangedNumbers a
+  unfolding rangedNumbers
+  ranged-listed e f = cc
+
+  pub ranged-refused : {r : Refusal} {l : List ℕ} → a ≡ NotListed r → l ≡ refusalNumbers r → l ≡ rangedNumbers a
+  unfolding rangedNumbers
+  ranged-refused e f = cc
+
+pub ruleset ranged-cases = (ranged-listed, ranged-refused)
+
 module _ {a : Written} where
   pub written-bytes : {z w : ℕ} → a ≡ Bytes z → w ≡ z → eight 0 0 0 w 0 0 0 0 ≡ writtenNumbers a
   unfolding writtenNumbers
@@ -112,12 +126,22 @@ module _ {e b n s f c m t : ℕ} (keys table buffers : List ℕ) (pe : f ≡ e) 
   pub lookup-answered : (k : ℕ) {a : Looked} {l : List ℕ} → a ≡ lookupOf (storeOf f c m t keys table buffers) k → l ≡ lookedNumbers a → l ≡ lookedNumbers (lookupOf (storeOf e b n s keys table buffers) k)
   lookup-answered k call p = p ∙ ap lookedNumbers (rw (← pe, ← pb, ← pn, ← ps) call)
 
+  module _ (low high : ℕ) (out : List ℕ) {a : Ranged} (call : a ≡ rangeOf (storeOf f c m t keys table buffers) low high (length out)) where
+    pub range-answered : {l : List ℕ} → l ≡ rangedNumbers a → l ≡ rangedNumbers (rangeOf (storeOf e b n s keys table buffers) low high (length out))
+    range-answered p = p ∙ ap rangedNumbers (rw (← pe, ← pb, ← pn, ← ps) call)
+
+    pub range-written : {after : List ℕ} → after ≡ rangedOut (keysFrom (storeOf f c m t keys table buffers) low high) a out
+        → after ≡ rangedOut (keysFrom (storeOf e b n s keys table buffers) low high) (rangeOf (storeOf e b n s keys table buffers) low high (length out)) out
+    range-written p = rw (← pe, ← pb, ← pn, ← ps) (p ∙ ap (λ (x : Ranged). rangedOut (keysFrom (storeOf f c m t keys table buffers) low high) x out) call)
+
   module _ (out : List ℕ) {a : Written} (call : a ≡ writeOf (storeOf f c m t keys table buffers) (length out)) where
     pub write-answered : {l : List ℕ} → l ≡ writtenNumbers a → l ≡ writtenNumbers (writeOf (storeOf e b n s keys table buffers) (length out))
     write-answered p = p ∙ ap writtenNumbers (rw (← pe, ← pb, ← pn, ← ps) call)
 
     pub write-written : {after : List ℕ} → after ≡ outBy a (storeOf f c m t keys table buffers) out → after ≡ outBy (writeOf (storeOf e b n s keys table buffers) (length out)) (storeOf e b n s keys table buffers) out
     write-written p = rw (← pe, ← pb, ← pn, ← ps) (p ∙ ap (λ (x : Written). outBy x (storeOf f c m t keys table buffers) out) call)
+
+pub ruleset range-calls = (range-answered, range-written)
 
 pub ruleset write-calls = (write-answered, write-written)
 

@@ -9,6 +9,8 @@ use Rattle.judge.specs.declared.Checked.{Checked}
 use Rattle.judge.specs.declared.Checked.the-variants.{Good, Refused as NotGood}
 use Rattle.lookup.specs.declared.Looked.{Looked}
 use Rattle.lookup.specs.declared.Looked.the-variants.{InRun, InBuffer, Absent, Refused as NotLooked}
+use Rattle.range.specs.declared.Ranged.{Ranged}
+use Rattle.range.specs.declared.Ranged.the-variants.{Listed, Refused as NotListed}
 use Rattle.image_write.specs.declared.Written.{Written}
 use Rattle.image_write.specs.declared.Written.the-variants.{Bytes, Refused as NotWritten}
 use Rattle.image_read.specs.declared.Loaded.{Loaded}
@@ -33,6 +35,10 @@ lookedNumbers Absent = eight 0 0 0 0 0 0 0 0
 lookedNumbers (InRun p) = eight 0 0 1 (p .0) 0 0 0 0
 lookedNumbers (InBuffer i j) = eight 0 0 2 i j 0 0 0
 lookedNumbers (NotLooked r) = refusalNumbers r
+
+unfoldable pub rangedNumbers : Ranged → List ℕ
+rangedNumbers (Listed m) = eight 0 0 0 m 0 0 0 0
+rangedNumbers (NotListed r) = refusalNumbers r
 
 unfoldable pub writtenNumbers : Written → List ℕ
 writtenNumbers (Bytes z) = eight 0 0 0 z 0 0 0 0

@@ -5,6 +5,7 @@ use image_read::Loaded;
 use image_write::Written;
 use judge::Checked;
 use lookup::Looked;
+use range::Ranged;
 use terms::Refusal;
 ghost use mathlib.Core.Path.{_≡_};
 ghost use lib.ListN.{length};
@@ -12,9 +13,10 @@ ghost use Rattle.table.specs.Store.{storeOf};
 ghost use Rattle.build.specs.Build.{builtOf, tableBy};
 ghost use Rattle.judge.specs.Check.{checkOf};
 ghost use Rattle.lookup.specs.Lookup.{lookupOf};
+ghost use Rattle.range.specs.Range.{rangeOf, outBy as rangedOut, keysFrom};
 ghost use Rattle.image_write.specs.Writing.{writeOf, outBy};
 ghost use Rattle.image_read.specs.Loading.{loadOf, keysBy, tableBy as loadedTable, buffersBy};
-ghost use Rattle.readstore.specs.Numbers.{refusalNumbers, builtNumbers, checkedNumbers, lookedNumbers, writtenNumbers, loadedNumbers};
+ghost use Rattle.readstore.specs.Numbers.{refusalNumbers, builtNumbers, checkedNumbers, lookedNumbers, rangedNumbers, writtenNumbers, loadedNumbers};
 
 fn size(x: u64) -> usize
     ensures { λ r. ⌜ r ≡ x ⌝ }
@@ -72,6 +74,18 @@ fn looked_numbers(a: Looked) -> [u64; 8]
             [0, 0, 2, i, j, 0, 0, 0]
         }
         Looked::Refused(r) => refusal_numbers(r),
+    }
+}
+
+fn ranged_numbers(a: Ranged) -> [u64; 8]
+    ensures { λ r. ⌜ r ≡ rangedNumbers a ⌝ }
+{
+    match a {
+        Ranged::Listed(m) => {
+            let many = word(m);
+            [0, 0, 0, many, 0, 0, 0, 0]
+        }
+        Ranged::Refused(r) => refusal_numbers(r),
     }
 }
 
@@ -155,6 +169,28 @@ pub extern "C" fn readstore_lookup(
 {
     let a = lookup::lookup(size(e), size(b), size(n), size(s), keys, table, buffers, k);
     *answer = looked_numbers(a);
+}
+
+// The reads from low to high, both ends among them, from the out slice's start. [3] is how many.
+#[no_mangle]
+pub extern "C" fn readstore_range(
+    keys: &[u64],
+    table: &[u64],
+    buffers: &[u64],
+    e: u64,
+    b: u64,
+    n: u64,
+    s: u64,
+    low: u64,
+    high: u64,
+    out: &mut [u64],
+    answer: &mut [u64; 8],
+)
+    ensures answered { λ _. ⌜ now (answer .exit) ≡ rangedNumbers (rangeOf (storeOf e b n s (now (keys .entry)) (now (table .entry)) (now (buffers .entry))) low high (length (now (out .entry)))) ⌝ }
+    ensures written { λ _. ⌜ now (out .exit) ≡ rangedOut (keysFrom (storeOf e b n s (now (keys .entry)) (now (table .entry)) (now (buffers .entry))) low high) (rangeOf (storeOf e b n s (now (keys .entry)) (now (table .entry)) (now (buffers .entry))) low high (length (now (out .entry)))) (now (out .entry)) ⌝ }
+{
+    let a = range::range(size(e), size(b), size(n), size(s), keys, table, buffers, low, high, out);
+    *answer = ranged_numbers(a);
 }
 
 // The stored form of the store, from the out slice's start. [3] is its length in bytes.

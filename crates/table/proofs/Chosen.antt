@@ -39,9 +39,3 @@ module _ (t : List ℕ) (k : ℕ) where
   -- it is a segment of the table
   pub chosen-below : (s : ℕ) → 0 < s → chosenOf t s k < s
   chosen-below s h = chosen-is s h .inside
-
--- a greater key's choice is not below a smaller key's, on any table
-pub choice-rises : (t : List ℕ) (s low high a z : ℕ) → low ≤ high → Chosen t s low a → Chosen t s high z → a ≤ z
-choice-rises t s low high a z h v w =
-    either (leb a z) (λ u. leb-true a z u)
-    (λ u. absurd (omega (arith, leb-false a z u, w .above a (leb-false a z u) (v .inside), v .found (omega (arith, leb-false a z u)))))

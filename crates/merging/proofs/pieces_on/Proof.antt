@@ -7,10 +7,10 @@ use Rattle.merging.proofs.pieces_on.Statement.{statement}
 use Rattle.merging.proofs.pieces_on.Tie as tie
 
 abbrev Inv-loop : tie.InvT-loop
-Inv-loop e x run used k bound m₀ cone₀ closed₀ m cone closed = Counting e run used k closed cone m
+Inv-loop e x run used k bound m₀ last₀ cone₀ closed₀ m last cone closed = Counting e run used k closed cone m last
 
 abbrev μ-loop : tie.MeasureT-loop
-μ-loop e x run used k bound m₀ cone₀ closed₀ m cone closed = length (restOf m run used k)
+μ-loop e x run used k bound m₀ last₀ cone₀ closed₀ m last cone closed = length (restOf m run used k)
 
 pub pieces-on-spec : {M : Type 1} → statement M
 pieces-on-spec =
@@ -34,5 +34,5 @@ pieces-on-spec =
     (λ c. search (count-cases, needs))  -- loop-again-2
     (λ c. search (count-cases, needs))  -- returns
     (λ c. search (count-cases, needs))  -- enum-told-2
-    (λ c. search (count-cases, needs))  -- add-t20
+    (λ c. search (count-cases, needs))  -- add-t21
     (λ c. search (count-cases, needs)))

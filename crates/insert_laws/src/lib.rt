@@ -1,0 +1,1 @@
+// No code: what insert's answers mean, and the theorems about them.
