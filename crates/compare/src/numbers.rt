@@ -2,6 +2,7 @@
 use build::Built;
 use image_read::Loaded;
 use image_write::Written;
+use insert::Inserted;
 use judge::Checked;
 use lookup::Looked;
 use range::Ranged;
@@ -80,5 +81,28 @@ pub fn loaded(a: Loaded) -> [u64; 8] {
             [0, 0, 0, u, v, x, y, 0]
         }
         Loaded::Refused(r) => refusal(r),
+    }
+}
+
+pub fn inserted(a: Inserted) -> [u64; 8] {
+    match a {
+        Inserted::Buffered { segment, slot } => {
+            let i = word(segment);
+            let j = word(slot);
+            [0, 0, 1, i, j, 0, 0, 0]
+        }
+        Inserted::Merged {
+            segment,
+            pieces,
+            n,
+            s,
+        } => {
+            let i = word(segment);
+            let t = word(pieces);
+            let x = word(n);
+            let y = word(s);
+            [0, 0, 2, i, t, x, y, 0]
+        }
+        Inserted::Refused(r) => refusal(r),
     }
 }

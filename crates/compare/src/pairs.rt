@@ -104,7 +104,7 @@ pub fn insert(
     let mut keys2 = *keys;
     let mut table2 = *table;
     let mut slots2 = *slots;
-    let a = sides::insert_plain(x, keys, table, slots, key);
+    let a = sides::insert(x, keys, table, slots, key);
     let p = sides::insert_plain(x, &mut keys2, &mut table2, &mut slots2, key);
     let same = same_cells(keys, &keys2) && same_cells(table, &table2) && same_cells(slots, &slots2);
     report(tally, 4, round, a, p, same);

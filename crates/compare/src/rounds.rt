@@ -160,16 +160,16 @@ fn some_length(round: u64, step: u64, length: u64) -> usize {
     }
 }
 
-fn hurt_reads(round: u64, x: Shape, image: &mut [u8; 6600], length: u64, tally: &mut [u64; 32]) {
+fn hurt_reads(round: u64, x: Shape, image: &mut [u8; 6600], size: u64, tally: &mut [u64; 32]) {
     let mut keys = [7u64; 256];
     let mut table = [8u64; 320];
     let mut slots = [9u64; 512];
     for i in 0..6 {
         let step = sum(7000, product(i, 16));
         let y = bent(round, sum(step, 8), x);
-        let l = some_length(round, step, length);
+        let l = some_length(round, step, size);
         pairs::read(round, y, image, l, &mut keys, &mut table, &mut slots, tally);
-        hurt_byte(round, sum(step, 2), image, length);
+        hurt_byte(round, sum(step, 2), image, size);
     }
 }
 
@@ -335,7 +335,25 @@ fn bent_insert(
     x
 }
 
-// The store goes wrong more and more; every call is made on it each time.
+// One cell more goes wrong, and every call is made.
+fn hurt_turn(
+    round: u64,
+    x: Shape,
+    keys: &mut [u64; 256],
+    table: &mut [u64; 320],
+    slots: &mut [u64; 512],
+    tally: &mut [u64; 32],
+) -> Shape {
+    hurt(round, 20000, x, keys, table, slots);
+    reads(round, x, keys, table, slots, tally, 6);
+    let y = bent_insert(round, 20100, x, keys, table, slots, tally);
+    let z = bent_insert(round, 20200, y, keys, table, slots, tally);
+    let w = inserts(round, z, keys, table, slots, tally, 3);
+    images(round, w, keys, table, slots, tally);
+    w
+}
+
+// The store goes wrong more and more.
 fn hurt_calls(
     round: u64,
     start: Shape,
@@ -348,13 +366,12 @@ fn hurt_calls(
     let mut x = start;
     for i in 0..count {
         let here = sum(product(round, 64), i);
-        hurt(here, 20000, x, keys, table, slots);
-        reads(here, x, keys, table, slots, tally, 6);
-        x = bent_insert(here, 20100, x, keys, table, slots, tally);
-        x = bent_insert(here, 20200, x, keys, table, slots, tally);
-        x = inserts(here, x, keys, table, slots, tally, 3);
-        images(here, x, keys, table, slots, tally);
+        x = hurt_turn(here, x, keys, table, slots, tally);
     }
+}
+
+fn hurt_key(round: u64, step: u64, keys: &mut [u64; 256], n: u64) {
+    hurt_cell(round, step, keys, dice(round, sum(step, 5), n), n);
 }
 
 // Builds that are refused, and some that are not, of keys and numbers gone wrong.
@@ -365,13 +382,7 @@ fn hurt_builds(round: u64, x: Shape, given: [u64; 256], slots: &[u64; 512], tall
         let step = sum(9000, product(i, 16));
         let y = bent(round, step, x);
         pairs::build(round, y, &keys, &mut table, slots, tally);
-        hurt_cell(
-            round,
-            sum(step, 4),
-            &mut keys,
-            dice(round, sum(step, 9), x.n),
-            x.n,
-        );
+        hurt_key(round, sum(step, 4), &mut keys, x.n);
     }
 }
 

@@ -182,6 +182,29 @@ pub fn range_plain(
     )
 }
 
+pub fn insert(
+    x: Shape,
+    keys: &mut [u64],
+    table: &mut [u64],
+    slots: &mut [u64],
+    key: u64,
+) -> [u64; 8] {
+    let k = cap(x.keys, keys.len());
+    let t = cap(x.table, table.len());
+    let l = cap(x.slots, slots.len());
+    let a = insert::insert(
+        size(x.e),
+        size(x.b),
+        size(x.n),
+        size(x.s),
+        &mut keys[..k],
+        &mut table[..t],
+        &mut slots[..l],
+        key,
+    );
+    numbers::inserted(a)
+}
+
 pub fn insert_plain(
     x: Shape,
     keys: &mut [u64],

@@ -15,13 +15,13 @@ same-answer-spec =
     (tie.spec
     Inv-loop
     μ-loop
-    (λ c. search needs) -- loop-holds
-    (λ c. search needs) -- mul-if1
-    (λ c. search needs) -- array-read-if1
-    (λ c. search needs) -- mul-if1-2
-    (λ c. search needs) -- array-read-if1-2
-    (λ c. search needs) -- returns
-    (λ c. search needs) -- add-i
-    (λ c. search needs) -- loop-less
-    (λ c. search needs) -- loop-again
+    (λ c. search needs)  -- loop-holds
+    (λ c. search needs)  -- mul-if1
+    (λ c. search needs)  -- array-read-if1
+    (λ c. search needs)  -- mul-if1-2
+    (λ c. search needs)  -- array-read-if1-2
+    (λ c. search needs)  -- returns
+    (λ c. search needs)  -- add-i
+    (λ c. search needs)  -- loop-less
+    (λ c. search needs)  -- loop-again
     (λ c. search needs))

@@ -15,13 +15,13 @@ write-answer-spec =
     (tie.spec
     Inv-loop
     μ-loop
-    (λ c. search needs) -- loop-holds
-    (λ c. search needs) -- slice-aggregate-write-all
-    (λ c κs. search needs) -- write-all-requires
-    (λ c. search needs) -- mul-print-decimal
-    (λ c. search needs) -- array-read-print-decimal
-    (λ c κs. search needs) -- print-decimal-requires
-    (λ c. search needs) -- add-i
-    (λ c. search needs) -- loop-less
-    (λ c. search needs) -- loop-again
+    (λ c. search needs)  -- loop-holds
+    (λ c. search needs)  -- slice-aggregate-write-all
+    (λ c κs. search needs)  -- write-all-requires
+    (λ c. search needs)  -- mul-print-decimal
+    (λ c. search needs)  -- array-read-print-decimal
+    (λ c κs. search needs)  -- print-decimal-requires
+    (λ c. search needs)  -- add-i
+    (λ c. search needs)  -- loop-less
+    (λ c. search needs)  -- loop-again
     (λ c. search needs))

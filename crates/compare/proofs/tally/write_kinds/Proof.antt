@@ -15,9 +15,9 @@ write-kinds-spec =
     (tie.spec
     Inv-loop
     μ-loop
-    (λ c. search needs) -- loop-holds
-    (λ c κs. search needs) -- write-kind-requires
-    (λ c. search needs) -- add-kind
-    (λ c. search needs) -- loop-less
-    (λ c. search needs) -- loop-again
+    (λ c. search needs)  -- loop-holds
+    (λ c κs. search needs)  -- write-kind-requires
+    (λ c. search needs)  -- add-kind
+    (λ c. search needs)  -- loop-less
+    (λ c. search needs)  -- loop-again
     (λ c. search needs))

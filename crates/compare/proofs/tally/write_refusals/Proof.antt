@@ -15,17 +15,17 @@ write-refusals-spec =
     (tie.spec
     Inv-loop
     μ-loop
-    (λ c. search needs) -- loop-holds
-    (λ c. search needs) -- slice-aggregate-write-all
-    (λ c κs. search needs) -- write-all-requires
-    (λ c κs. search needs) -- print-decimal-requires
-    (λ c. search needs) -- slice-aggregate-write-all-2
-    (λ c κs. search needs) -- write-all-requires-2
-    (λ c κs. search needs) -- cell-of-requires
-    (λ c. search needs) -- mul-print-decimal
-    (λ c. search needs) -- element-copy-out-print-decimal
-    (λ c κs. search needs) -- print-decimal-requires-2
-    (λ c. search needs) -- add-number
-    (λ c. search needs) -- loop-less
-    (λ c. search needs) -- loop-again
+    (λ c. search needs)  -- loop-holds
+    (λ c. search needs)  -- slice-aggregate-write-all
+    (λ c κs. search needs)  -- write-all-requires
+    (λ c κs. search needs)  -- print-decimal-requires
+    (λ c. search needs)  -- slice-aggregate-write-all-2
+    (λ c κs. search needs)  -- write-all-requires-2
+    (λ c κs. search needs)  -- cell-of-requires
+    (λ c. search needs)  -- mul-print-decimal
+    (λ c. search needs)  -- element-copy-out-print-decimal
+    (λ c κs. search needs)  -- print-decimal-requires-2
+    (λ c. search needs)  -- add-number
+    (λ c. search needs)  -- loop-less
+    (λ c. search needs)  -- loop-again
     (λ c. search needs))
