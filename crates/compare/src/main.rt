@@ -9,9 +9,9 @@ mod sides;
 mod tally;
 
 // How many lists are built, and how many small stores drawn.
-const BUILT: u64 = 160;
+const BUILT: u64 = 1600;
 
-const SMALL: u64 = 1500;
+const SMALL: u64 = 15000;
 
 fn built_rounds(tally: &mut [u64; 32], count: u64) {
     for round in 0..count {

@@ -30,36 +30,68 @@ fn some_key(round: u64, step: u64, n: u64, keys: &[u64], slots: &[u64]) -> u64 {
     }
 }
 
+fn with_e(x: Shape, e: u64) -> Shape {
+    Shape {
+        e,
+        b: x.b,
+        n: x.n,
+        s: x.s,
+        keys: x.keys,
+        table: x.table,
+        slots: x.slots,
+    }
+}
+
+fn with_b(x: Shape, b: u64) -> Shape {
+    Shape {
+        e: x.e,
+        b,
+        n: x.n,
+        s: x.s,
+        keys: x.keys,
+        table: x.table,
+        slots: x.slots,
+    }
+}
+
+fn with_counts(x: Shape, n: u64, s: u64) -> Shape {
+    Shape {
+        e: x.e,
+        b: x.b,
+        n,
+        s,
+        keys: x.keys,
+        table: x.table,
+        slots: x.slots,
+    }
+}
+
+fn with_lengths(x: Shape, keys: usize, table: usize, slots: usize) -> Shape {
+    Shape {
+        e: x.e,
+        b: x.b,
+        n: x.n,
+        s: x.s,
+        keys,
+        table,
+        slots,
+    }
+}
+
 // The shape with, one time in four, one of its numbers gone wrong.
 fn bent(round: u64, step: u64, x: Shape) -> Shape {
-    let mut y = x;
     let kind = dice(round, step, 28);
     let other = wild(round, sum(step, 1));
     match kind {
-        0 => {
-            y.e = other;
-        }
-        1 => {
-            y.b = other;
-        }
-        2 => {
-            y.n = other;
-        }
-        3 => {
-            y.s = other;
-        }
-        4 => {
-            y.keys = (other % 300) as usize;
-        }
-        5 => {
-            y.table = (other % 330) as usize;
-        }
-        6 => {
-            y.slots = (other % 520) as usize;
-        }
-        _ => {}
+        0 => with_e(x, other),
+        1 => with_b(x, other),
+        2 => with_counts(x, other, x.s),
+        3 => with_counts(x, x.n, other),
+        4 => with_lengths(x, (other % 300) as usize, x.table, x.slots),
+        5 => with_lengths(x, x.keys, (other % 330) as usize, x.slots),
+        6 => with_lengths(x, x.keys, x.table, (other % 520) as usize),
+        _ => x,
     }
-    y
 }
 
 pub fn lookups(
@@ -133,21 +165,20 @@ pub fn ranges(
     }
 }
 
-// A byte of an image gone wrong: a low one most often, or the kind of some record.
-fn hurt_byte(round: u64, step: u64, image: &mut [u8], length: u64) {
-    let place = dice(round, step, sum(length, 1));
-    let head = dice(round, step, 9);
-    let kind = dice(round, sum(step, 1), 4);
+// A byte of an image to go wrong: any, one of the head's, or one of the last thirty.
+fn some_place(round: u64, step: u64, size: u64) -> u64 {
+    let kind = dice(round, step, 4);
     match kind {
-        0 => put_byte(image, place, dice(round, sum(step, 2), 10)),
-        1 => put_byte(image, place, dice(round, sum(step, 2), 256)),
-        2 => put_byte(image, head, dice(round, sum(step, 2), 12)),
-        _ => put_byte(
-            image,
-            above(length, sum(1, dice(round, sum(step, 2), 30))),
-            dice(round, sum(step, 3), 10),
-        ),
+        0 => dice(round, sum(step, 1), 9),
+        1 => above(size, sum(1, dice(round, sum(step, 1), 30))),
+        _ => dice(round, sum(step, 1), sum(size, 1)),
     }
+}
+
+fn hurt_byte(round: u64, step: u64, image: &mut [u8], size: u64) {
+    let place = some_place(round, step, size);
+    let faces = sum(10, product(246, dice(round, sum(step, 2), 2)));
+    put_byte(image, place, dice(round, sum(step, 3), faces));
 }
 
 // A length to read: the image's, or another.
@@ -208,18 +239,22 @@ pub fn images(
     hurt_reads(round, x, &mut image, a[3], tally);
 }
 
-// Cell p of some cells gone wrong: any number, that of another cell, or one beside it.
-fn hurt_cell(round: u64, step: u64, cells: &mut [u64], p: u64, among: u64) {
+// What a cell that holds x may wrongly hold: any number, that of another cell, or one near.
+fn wrong_cell(round: u64, step: u64, x: u64, other: u64) -> u64 {
     let kind = dice(round, step, 5);
-    let x = at(cells, p);
-    let other = at(cells, dice(round, sum(step, 1), among));
     match kind {
-        0 => put(cells, p, wild(round, sum(step, 2))),
-        1 => put(cells, p, other),
-        2 => put(cells, p, sum(x, 1)),
-        3 => put(cells, p, above(x, 1)),
-        _ => put(cells, p, sum(x, dice(round, sum(step, 3), 40))),
+        0 => wild(round, sum(step, 2)),
+        1 => other,
+        2 => sum(x, 1),
+        3 => above(x, 1),
+        _ => sum(x, dice(round, sum(step, 3), 40)),
     }
+}
+
+// Cell p of the first `among` gone wrong.
+fn hurt_cell(round: u64, step: u64, cells: &mut [u64], p: u64, among: u64) {
+    let other = at(cells, dice(round, sum(step, 1), among));
+    put(cells, p, wrong_cell(round, step, at(cells, p), other));
 }
 
 // One cell of the store gone wrong.
@@ -284,15 +319,7 @@ fn reads(
 fn grown(x: Shape, a: [u64; 8]) -> Shape {
     if a[0] == 0 {
         if a[2] == 2 {
-            return Shape {
-                e: x.e,
-                b: x.b,
-                n: a[5],
-                s: a[6],
-                keys: x.keys,
-                table: x.table,
-                slots: x.slots,
-            };
+            return with_counts(x, a[5], a[6]);
         }
     }
     x
@@ -383,18 +410,6 @@ fn hurt_builds(round: u64, x: Shape, given: [u64; 256], slots: &[u64; 512], tall
         let y = bent(round, step, x);
         pairs::build(round, y, &keys, &mut table, slots, tally);
         hurt_key(round, sum(step, 4), &mut keys, x.n);
-    }
-}
-
-fn with_counts(x: Shape, n: u64, s: u64) -> Shape {
-    Shape {
-        e: x.e,
-        b: x.b,
-        n,
-        s,
-        keys: x.keys,
-        table: x.table,
-        slots: x.slots,
     }
 }
 
