@@ -204,6 +204,57 @@ fn hurt_reads(round: u64, x: Shape, image: &mut [u8; 6600], size: u64, tally: &m
     }
 }
 
+// The greatest and the least number that does not fit six bytes, and two.
+fn edge(kind: u64) -> u64 {
+    match kind {
+        0 => 281474976710655,
+        1 => 281474976710656,
+        2 => 65535,
+        _ => 65536,
+    }
+}
+
+fn hurt_edge(round: u64, step: u64, cells: &mut [u64], among: u64) {
+    put(
+        cells,
+        dice(round, step, among),
+        edge(dice(round, sum(step, 1), 4)),
+    );
+}
+
+fn edge_table(round: u64, table: &mut [u64; 320], among: u64) {
+    hurt_edge(round, 7700, table, among);
+}
+
+fn edge_keys(round: u64, keys: &mut [u64; 256], among: u64) {
+    hurt_edge(round, 7710, keys, among);
+}
+
+fn edge_slots(round: u64, slots: &mut [u64; 512], among: u64) {
+    hurt_edge(round, 7720, slots, among);
+}
+
+// The store written with one number of its table at an edge, then one of its keys, then one of its slots.
+fn edge_writes(
+    round: u64,
+    x: Shape,
+    keys: &[u64; 256],
+    table: &[u64; 320],
+    slots: &[u64; 512],
+    tally: &mut [u64; 32],
+) {
+    let mut image = [170u8; 6600];
+    let mut table2 = *table;
+    edge_table(round, &mut table2, product(x.s, 5));
+    pairs::write(round, x, keys, &table2, slots, &mut image, 6600, tally);
+    let mut keys2 = *keys;
+    edge_keys(round, &mut keys2, x.n);
+    pairs::write(round, x, &keys2, table, slots, &mut image, 6600, tally);
+    let mut slots2 = *slots;
+    edge_slots(round, &mut slots2, product(x.s, x.b));
+    pairs::write(round, x, keys, table, &slots2, &mut image, 6600, tally);
+}
+
 pub fn images(
     round: u64,
     x: Shape,
@@ -377,6 +428,7 @@ fn hurt_turn(
     let z = bent_insert(round, 20200, y, keys, table, slots, tally);
     let w = inserts(round, z, keys, table, slots, tally, 3);
     images(round, w, keys, table, slots, tally);
+    edge_writes(round, w, keys, table, slots, tally);
     w
 }
 
@@ -448,6 +500,7 @@ fn grow(
     let y = inserts(round, x, keys, table, slots, tally, 60);
     reads(sum(round, 1000000), y, keys, table, slots, tally, 12);
     images(round, y, keys, table, slots, tally);
+    edge_writes(round, y, keys, table, slots, tally);
     hurt_calls(round, y, keys, table, slots, tally, 3);
 }
 
@@ -498,4 +551,5 @@ fn small_calls(
     let y = inserts(round, x, keys, table, slots, tally, 6);
     reads(sum(round, 1000000), y, keys, table, slots, tally, 4);
     images(round, y, keys, table, slots, tally);
+    edge_writes(round, y, keys, table, slots, tally);
 }
