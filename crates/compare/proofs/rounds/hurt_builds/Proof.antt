@@ -1,0 +1,28 @@
+use borrow.Author.Needs.{needs}
+use Prim.Native.Nat.{_≤_, _-_}
+use Rattle.compare.proofs.rounds.hurt_builds.Statement.{statement}
+use Rattle.compare.proofs.rounds.hurt_builds.Tie as tie
+
+abbrev Inv-loop : tie.InvT-loop
+Inv-loop round x slots tally₀ keys₀ table₀ i₀ tally keys table i = 0 ≤ i
+
+abbrev μ-loop : tie.MeasureT-loop
+μ-loop round x slots tally₀ keys₀ table₀ i₀ tally keys table i = 4 - i
+
+pub hurt-builds-spec : {M : Type 1} → statement M
+hurt-builds-spec =
+    tie.close
+    (tie.spec
+    Inv-loop
+    μ-loop
+    (λ c. search needs)  -- loop-holds
+    (λ c κs. search needs)  -- product-requires
+    (λ c κs. search needs)  -- sum-requires
+    (λ c κs. search needs)  -- bent-requires
+    (λ c κs. search needs)  -- build-requires
+    (λ c κs. search needs)  -- sum-requires-2
+    (λ c κs. search needs)  -- hurt-key-requires
+    (λ c. search needs)  -- add-i
+    (λ c. search needs)  -- loop-less
+    (λ c. search needs)  -- loop-again
+    (λ c. search needs))

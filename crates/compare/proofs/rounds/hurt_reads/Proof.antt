@@ -1,0 +1,30 @@
+use borrow.Author.Needs.{needs}
+use Prim.Native.Nat.{_≤_, _-_}
+use Rattle.compare.proofs.rounds.hurt_reads.Statement.{statement}
+use Rattle.compare.proofs.rounds.hurt_reads.Tie as tie
+
+abbrev Inv-loop : tie.InvT-loop
+Inv-loop round x image₀ size tally₀ keys₀ table₀ slots₀ i₀ image tally keys table slots i = 0 ≤ i
+
+abbrev μ-loop : tie.MeasureT-loop
+μ-loop round x image₀ size tally₀ keys₀ table₀ slots₀ i₀ image tally keys table slots i = 6 - i
+
+pub hurt-reads-spec : {M : Type 1} → statement M
+hurt-reads-spec =
+    tie.close
+    (tie.spec
+    Inv-loop
+    μ-loop
+    (λ c. search needs)  -- loop-holds
+    (λ c κs. search needs)  -- product-requires
+    (λ c κs. search needs)  -- sum-requires
+    (λ c κs. search needs)  -- sum-requires-2
+    (λ c κs. search needs)  -- bent-requires
+    (λ c κs. search needs)  -- some-length-requires
+    (λ c κs. search needs)  -- read-requires
+    (λ c κs. search needs)  -- sum-requires-3
+    (λ c κs. search needs)  -- hurt-byte-requires
+    (λ c. search needs)  -- add-i
+    (λ c. search needs)  -- loop-less
+    (λ c. search needs)  -- loop-again
+    (λ c. search needs))

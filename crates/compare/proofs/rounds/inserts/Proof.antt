@@ -1,0 +1,27 @@
+use borrow.Author.Needs.{needs}
+use Prim.Native.Nat.{_≤_, _-_}
+use Rattle.compare.proofs.rounds.inserts.Statement.{statement}
+use Rattle.compare.proofs.rounds.inserts.Tie as tie
+
+abbrev Inv-loop : tie.InvT-loop
+Inv-loop round keys₀ table₀ slots₀ tally₀ count x₀ i₀ keys table slots tally x i = 0 ≤ i
+
+abbrev μ-loop : tie.MeasureT-loop
+μ-loop round keys₀ table₀ slots₀ tally₀ count x₀ i₀ keys table slots tally x i = count - i
+
+pub inserts-spec : {M : Type 1} → statement M
+inserts-spec =
+    tie.close
+    (tie.spec
+    Inv-loop
+    μ-loop
+    (λ c. search needs)  -- loop-holds
+    (λ c κs. search needs)  -- product-requires
+    (λ c κs. search needs)  -- sum-requires
+    (λ c κs. search needs)  -- some-key-requires
+    (λ c κs. search needs)  -- insert-requires
+    (λ c κs. search needs)  -- grown-requires
+    (λ c. search needs)  -- add-i
+    (λ c. search needs)  -- loop-less
+    (λ c. search needs)  -- loop-again
+    (λ c. search needs))
