@@ -63,7 +63,7 @@ fn run_of(keys: &[u64], i: usize, c: usize) -> u64
 }
 
 // Writes the five numbers of a closed segment of c keys as row n of the table.
-fn close(keys: &[u64], i: usize, c: usize, from: usize, table: &mut [u64], n: usize)
+pub fn close(keys: &[u64], i: usize, c: usize, from: usize, table: &mut [u64], n: usize)
     requires { ⌜ Room (now keys) i c from (now table) n ⌝ }
     ensures { λ _. ⌜ now (table .exit) ≡ sets (now (table .entry)) (5 * n) (rowOf from (segmentOf (now (keys .entry)) i c)) ⌝ }
 {

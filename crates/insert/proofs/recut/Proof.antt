@@ -7,7 +7,15 @@ pub recut-spec : {M : Type 1} → statement M
 recut-spec =
     tie.close
     (tie.spec
-    (λ c. search (recut-cases, needs))  -- add-to
+    (λ c. search (recut-cases, needs))  -- add-stop
+    (λ c. search (recut-cases, needs))  -- mul-close
+    (λ c. search (recut-cases, needs))  -- sub-close
+    (λ c. search (recut-cases, needs))  -- part-close-start
+    (λ c. search (recut-cases, needs))  -- part-close-end
+    (λ c. search (recut-cases, needs))  -- sub-close-2
+    (λ c κs. search (recut-cases, needs))  -- close-requires
+    (λ c. search (recut-cases, needs))  -- same-length
+    (λ c. search (recut-cases, needs))  -- returns
     (λ c. search (recut-cases, needs))  -- mul-row
     (λ c. search (recut-cases, needs))  -- mul-write-segments
     (λ c. search (recut-cases, needs))  -- sub-write-segments
@@ -18,5 +26,5 @@ recut-spec =
     (λ c. search (recut-cases, needs))  -- part-write-segments-start-2
     (λ c. search (recut-cases, needs))  -- part-write-segments-end-2
     (λ c κs. search (recut-cases, needs))  -- write-segments-requires
-    (λ c. search (recut-cases, needs))  -- same-length
+    (λ c. search (recut-cases, needs))  -- same-length-2
     (λ c. search (recut-cases, needs)))
