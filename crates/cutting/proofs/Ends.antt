@@ -6,15 +6,14 @@ use mathlib.Core.List.{List, [], _∷_}
 use Prim.Native.Nat.{ℕ, zero, suc, _+_, _-_, _≤_, _<_}
 use native.Mathlib.Nat.{add-zero, zero-add}
 use native.Mathlib.Omega.{arith}
-use lib.Dec.{ltb}
 use lib.ListN.{length, take, drop, length-drop}
 use lib.Seq.{getD-drop}
-use borrow.Author.Tests.{lt-ltb, le-ltb, ltb-true, ltb-false}
+use borrow.Author.Tests.{lt-ltb, le-ltb}
 use Rattle.lists.proofs.Tests.{either, same-test}
 use Rattle.lists.proofs.Lists.{tail-is}
 use Rattle.lists.proofs.Rising.{up-drop}
 use Rattle.terms.specs.Limits.{keyLimit}
-use Rattle.cone.specs.Rule.{far, Missed, joins, Segment, segmentOf, cutFrom, cut}
+use Rattle.cone.specs.Rule.{far, Missed, joins, segmentOf, cutFrom, cut}
 use Rattle.cone.specs.Keys.{Cuttable}
 use Rattle.cone.proofs.Rules.{joins-true, true-joins, cut-joined, cut-apart, cut-end, cut-start, cut-none}
 use Rattle.cutting.specs.Ends.{sizeFrom, sizeOf, cutAt, Startable}
@@ -81,20 +80,6 @@ module _ (e : ℕ) (ks : List ℕ) (i : ℕ) (inside : i < length ks) where
   pub size-most : i + sizeOf e ks i ≤ length ks
   unfolding sizeOf
   size-most = size-inside e ks (length ks - (i + 1)) i 1 (omega arith) .1
-
--- ---- a cut of one segment holds all the keys in it
-
-pub one-piece : (e : ℕ) (ks : List ℕ) → 0 < length ks → length (cut e ks) ≡ 1 → cut e ks ≡ segmentOf ks 0 (length ks) ∷ []
-one-piece e ks some one =
-    let whole : cut e ks ≡ segmentOf ks 0 (sizeOf e ks 0) ∷ cutAt e ks (sizeOf e ks 0) =
-    at-start e ks ∙ rw (zero-add (sizeOf e ks 0)) at (at-next e ks 0 some) in
-    either (ltb (sizeOf e ks 0) (length ks))
-    (λ t.
-    absurd (omega (arith, one, ap length whole, ap length (at-next e ks (sizeOf e ks 0) (ltb-true _ _ t)))))
-    (λ t.
-    let all : sizeOf e ks 0 ≡ length ks = omega (arith, ltb-false (sizeOf e ks 0) (length ks) t, size-most e ks 0 some) in
-    whole ∙ ap (λ (r : List Segment). segmentOf ks 0 (sizeOf e ks 0) ∷ r) (at-none e ks (sizeOf e ks 0) (ltb-false _ _ t))
-    ∙ ap (λ (m : ℕ). segmentOf ks 0 m ∷ []) all)
 
 -- ---- the segment that starts at i is the first of the keys from i on: what is lent is a part of the keys
 

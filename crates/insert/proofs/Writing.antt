@@ -3,32 +3,29 @@
 use mathlib.Core.Path.{_≡_, refl, sym, ap, _∙_}
 use mathlib.Core.List.{List, [], _∷_, _++_, append-assoc}
 use Prim.Native.Nat.{ℕ, suc, _+_, _-_, _*_, _≤_, _<_}
-use native.Mathlib.Nat.{le-of-lt, mul-le-mul-right, mul-le-mul, add-sub-cancel-left}
+use native.Mathlib.Nat.{mul-le-mul-right, mul-le-mul, add-sub-cancel-left}
 use native.Mathlib.Omega.{arith}
 use lib.Dec.{ltb, leb}
 use lib.ListN.{length, getD, take, drop, length-take, length-drop, length-append}
-use lib.Seq.{sets, sets-eq, take-take, take-add, take-at, drop-at, drop-drop, getD-drop, length-take-le}
+use lib.Seq.{take-take, take-add, take-at, drop-at, drop-drop, getD-drop, length-take-le}
 use borrow.Rule.Slice.PartMut.{putMid}
 use borrow.Author.Tests.{leb-true, ltb-true}
 use Rattle.lists.specs.Merge.{merge, insertSorted, placeOf}
 use Rattle.lists.proofs.Tests.{both-true}
 use Rattle.lists.proofs.Lists.{drop-take, tail-is, tail-back, mid-back, take-front, drop-front}
-use Rattle.lists.proofs.Rising.{up-rises}
 use Rattle.lists.proofs.Merging.{length-merge, length-insert, place-le}
-use Rattle.terms.specs.Limits.{keyLimit, nMost}
+use Rattle.terms.specs.Limits.{nMost}
 use Rattle.terms.specs.declared.Entry.{Entry}
 use Rattle.table.specs.Store.{Store, storeOf}
 use Rattle.table.specs.Entries.{Row, entryOf, entryIn, runOf, usedOf}
 use Rattle.table.proofs.Limits.{Holds, room-holds}
 use Rattle.scan.specs.Scan.{noneOf}
 use Rattle.scan.proofs.Meaning.{passes}
-use Rattle.cone.specs.Rule.{Segment, segmentOf, cut}
+use Rattle.cone.specs.Rule.{Segment, cut}
 use Rattle.cone.specs.Cover.{Tiled}
 use Rattle.cone.specs.Keys.{Cuttable}
 use Rattle.cone.proofs.Cover.{parted}
-use Rattle.cutting.specs.Rows.{rowOf, rowsOf, Room, Writable}
-use Rattle.cutting.proofs.Rows.{rows-one}
-use Rattle.cutting.proofs.Ends.{one-piece}
+use Rattle.cutting.specs.Rows.{rowsOf, Known}
 use Rattle.lookup.proofs.Laws.{slot-inside}
 use Rattle.moves.specs.Shift.{shiftUp}
 use Rattle.moves.specs.Join.{Puttable}
@@ -205,51 +202,29 @@ module _ (e b : ℕ) (x : Entry) (keys : List ℕ) (i t : ℕ) (table : List ℕ
   part-length : length (joinedPart b x keys) ≡ x .end .0 + b - x .base .0
   part-length = omega (arith, length-take (x .end .0 + b - x .base .0) (drop (x .base .0) keys), length-drop (x .base .0) keys, asked .some, asked .room)
 
-  pub recut-asks : Writable e (joinedPart b x keys) (x .base .0) (take (length table - 5 * i) (drop (5 * i) table))
+  pub recut-asks : Known e (joinedPart b x keys) (x .base .0) (take (length table - 5 * i) (drop (5 * i) table)) t
   recut-asks =
       rw (tail-is table (5 * i))
       (record {
-        keys = asked .keys-rise;
-        room = omega (arith, asked .pieces, asked .rows, length-drop (5 * i) table);
-        place = omega (arith, part-length, asked .some, asked .most);
+        writable =
+            record {
+              keys = asked .keys-rise;
+              room = omega (arith, asked .pieces, asked .rows, length-drop (5 * i) table);
+              place = omega (arith, part-length, asked .some, asked .most);
+            };
+        some = omega (arith, part-length, asked .some);
+        pieces = asked .pieces;
       })
 
   pub recut-done :
-      {r : ℕ} {new : List ℕ} → r ≡ length (cut e (joinedPart b x keys))
-      → new ≡ rowsOf (x .base .0) (cut e (joinedPart b x keys)) ++ drop (5 * r) (take (length table - 5 * i) (drop (5 * i) table))
+      {new : List ℕ} → new ≡ rowsOf (x .base .0) (cut e (joinedPart b x keys)) ++ drop (5 * t) (take (length table - 5 * i) (drop (5 * i) table))
       → putMid (5 * i) (length table - 5 * i) table new ≡ recutTable e b x keys i table
   unfolding recutTable
-  recut-done {r} {new} count is =
-      tail-back table new (5 * i) (omega (arith, asked .rows)) ∙ ap (λ (q : List ℕ). take (5 * i) table ++ q) (is ∙ rw (count, tail-is table (5 * i)) refl)
+  recut-done {new} is =
+      tail-back table new (5 * i) (omega (arith, asked .rows))
+      ∙ ap (λ (q : List ℕ). take (5 * i) table ++ q) (is ∙ rw (tail-is table (5 * i)) (ap (λ (m : ℕ). rowsOf (x .base .0) (cut e (joinedPart b x keys)) ++ drop (5 * m) (drop (5 * i) table)) (asked .pieces)))
 
-  -- one segment
-  module _ (one : t ≡ 1) where
-    pub recut-one-asks : Room (joinedPart b x keys) 0 (x .end .0 + b - x .base .0) (x .base .0) table i
-    recut-one-asks =
-        record {
-          stretch = record { some = omega (arith, asked .some); inside = omega (arith, part-length); ordered = first-least };
-          place = omega (arith, asked .some, asked .most);
-          held = omega (arith, asked .rows, one);
-        }
-      where
-        first-least : getD (joinedPart b x keys) 0 0 ≤ getD (joinedPart b x keys) (0 + (x .end .0 + b - x .base .0 - 1)) 0
-        first-least =
-            le-of-lt
-            (up-rises 0 keyLimit (joinedPart b x keys) (asked .keys-rise .rising) 0 (0 + (x .end .0 + b - x .base .0 - 1)) (omega (arith, asked .some, asked .b-least)) (omega (arith, part-length, asked .some)))
-
-    pub recut-one :
-        {new : List ℕ} → new ≡ sets table (5 * i) (rowOf (x .base .0) (segmentOf (joinedPart b x keys) 0 (x .end .0 + b - x .base .0)))
-        → new ≡ recutTable e b x keys i table
-    unfolding recutTable
-    recut-one {new} is =
-        let ks : List ℕ = joinedPart b x keys in
-        let p : cut e ks ≡ segmentOf ks 0 (x .end .0 + b - x .base .0) ∷ [] =
-        one-piece e ks (omega (arith, part-length, asked .some)) (sym (asked .pieces) ∙ one) ∙ ap (λ (m : ℕ). segmentOf ks 0 m ∷ []) part-length in
-        is ∙ sets-eq (rowOf (x .base .0) (segmentOf ks 0 (x .end .0 + b - x .base .0))) table (5 * i) (omega (arith, asked .rows, one))
-        ∙ append-assoc (take (5 * i) table) (rowOf (x .base .0) (segmentOf ks 0 (x .end .0 + b - x .base .0))) (drop (5 * i + 5) table)
-        ∙ rw (p, rows-one (x .base .0) (segmentOf ks 0 (x .end .0 + b - x .base .0)), drop-drop 5 (5 * i) table) refl
-
-pub ruleset recut-cases = (recut-asks, recut-done, recut-one-asks, recut-one)
+pub ruleset recut-cases = (recut-asks, recut-done)
 
 -- ---- all of it
 
@@ -442,7 +417,6 @@ module _ (e b n s : ℕ) (keys table buffers : List ℕ) (i t k : ℕ) (asked : 
             rw entry
             (record {
               some = asked .sound .some;
-              b-least = asked .limits .b-least;
               most = omega (arith, asked .sound, keys-most);
               room = length-keys join-keys-done;
               keys-rise = rw p joined-cuts;

@@ -94,7 +94,6 @@ recutTable e b x keys i table =
 
 pub record Recuttable (e b : ℕ) (x : Entry) (keys : List ℕ) (i t : ℕ) (table : List ℕ) : Type 0 where
   pub some : x .base .0 < x .end .0
-  pub b-least : 1 ≤ b
   pub most : x .end .0 + b ≤ nMost
   pub room : x .end .0 + b ≤ length keys
   pub keys-rise : Cuttable e (joinedPart b x keys)

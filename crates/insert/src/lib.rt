@@ -331,20 +331,15 @@ fn make_room(b: usize, s: usize, table: &mut [u64], buffers: &mut [u64], i: usiz
     raise_later(b, s, table, i, t);
 }
 
-// The merged part of the key slice is cut, and its entries stand in the table from entry i on. Most often it is one segment, whose
-// entry is read off the part's ends, so that its keys are not walked again.
+// The merged part of the key slice is cut, and its t entries stand in the table from entry i on.
 fn recut(e: usize, b: usize, x: Entry, keys: &[u64], table: &mut [u64], i: usize, t: usize)
     requires { ⌜ Recuttable e b x (now keys) i t (now table) ⌝ }
     ensures { λ _. ⌜ now (table .exit) ≡ recutTable e b x (now (keys .entry)) i (now (table .entry)) ⌝ }
 {
     let base = x.base.0;
     let stop = x.end.0 + b;
-    if t == 1 {
-        cutting::close(&keys[base..stop], 0, stop - base, base, table, i);
-        return;
-    }
     let row = 5 * i;
-    cutting::write_segments(e, &keys[base..stop], base, &mut table[row..]);
+    cutting::write_known(e, &keys[base..stop], base, &mut table[row..], t);
 }
 
 // The merge of segment i with k, into t segments.
