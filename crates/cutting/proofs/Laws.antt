@@ -20,7 +20,7 @@ use Rattle.cone.specs.Rule.{Segment, segmentOf, cut}
 use Rattle.cone.specs.Step.{Ready, startOf, stepOf}
 use Rattle.cone.specs.Keys.{Cuttable}
 use Rattle.cone.proofs.Walk.{Open, Next, open-start, next-key, open-ready, open-joins, open-count, open-joined, open-apart}
-use Rattle.cutting.specs.Rows.{rowOf, rowsOf, Room, Writable}
+use Rattle.cutting.specs.Rows.{rowOf, rowsOf, Room, Writable, Known}
 use Rattle.cutting.specs.Ends.{sizeFrom, sizeOf, cutAt, Startable}
 use Rattle.cutting.proofs.Rows.{Filled, filled-none, filled-all, fill}
 use Rattle.cutting.proofs.Ends.{size-joined, size-apart, size-none, at-none, at-start, at-next, size-some, size-most, size-lent, lent-counts, lent-startable}
@@ -128,6 +128,21 @@ module _ {e : ℕ} {ks : List ℕ} {i n : ℕ} (w : Counting e ks i n) where
   pub count-end : length ks ≤ i → n ≡ length (cut e ks)
   count-end over = omega (arith, w .few, simp length-drop at (ap length (w .rest ∙ at-none e ks i over)))
 
+  -- where the cut has a segment more, keys are left; where that is the last, it has them all
+  pub some-left : n < length (cut e ks) → i < length ks
+  some-left h = either (ltb i (length ks)) (λ t. ltb-true i (length ks) t) (λ t. absurd (omega (arith, count-end (ltb-false i (length ks) t))))
+
+  last-size : n + 1 ≡ length (cut e ks) → length ks - i ≡ sizeOf e ks i
+  last-size h =
+      let more : i < length ks = some-left (omega arith) in
+      let none : length (cutAt e ks (i + sizeOf e ks i)) ≡ 0 = omega (arith, simp length-drop at (ap length (next-is more))) in
+      either (ltb (i + sizeOf e ks i) (length ks))
+      (λ t. absurd (omega (arith, ap length (at-next e ks (i + sizeOf e ks i) (ltb-true (i + sizeOf e ks i) (length ks) t)))))
+      (λ t. omega (arith, ltb-false (i + sizeOf e ks i) (length ks) t, size-most e ks i more))
+
+  pub last-lent : n + 1 ≡ length (cut e ks) → length ks - i ≡ sizeOf e (take (length ks - i) (drop i ks)) 0
+  last-lent h = last-size h ∙ sym (size-lent e ks i)
+
 pub ruleset count-cases = (count-start, count-asks, lent-counts, count-on, count-fits, count-less, count-end)
 
 -- ---- one row: five stores
@@ -204,3 +219,52 @@ module _ {e : ℕ} {ks : List ℕ} {from : ℕ} {t : List ℕ} {i n : ℕ} {tabl
   write-end over = w .filled ∙ filled-all from (cut e ks) t n (sym (write-counts over))
 
 pub ruleset write-cases = (write-start, write-asks, lent-counts, room-asks, write-on, write-fits, write-less, write-counts, write-end)
+
+-- ---- with the number of segments known
+
+pub record Filling (e : ℕ) (ks : List ℕ) (from : ℕ) (t : List ℕ) (m i n : ℕ) (table : List ℕ) : Type 0 where
+  pub writing : Writing e ks from t i n table
+  pub known : m ≡ length (cut e ks)
+  pub below : n + 1 ≤ m
+
+module _ (e : ℕ) (ks : List ℕ) (from : ℕ) (t : List ℕ) (m : ℕ) (asked : Known e ks from t m) where
+  pub known-some : 1 ≤ m
+  known-some = omega (arith, asked .pieces, ap length (at-start e ks ∙ at-next e ks 0 (asked .some)))
+
+  pub known-start : Filling e ks from t m 0 0 t
+  known-start = record { writing = write-start e ks from t (asked .writable); known = asked .pieces; below = omega (arith, known-some) }
+
+module _ {e : ℕ} {ks : List ℕ} {from : ℕ} {t : List ℕ} {m i n : ℕ} {table : List ℕ} (f : Filling e ks from t m i n table) where
+  keys-left : i < length ks
+  keys-left = some-left (f .writing .count) (omega (arith, f .known, f .below))
+
+  pub known-inside : i ≤ length ks
+  known-inside = omega (arith, keys-left)
+
+  pub known-asks : Startable e (take (length ks - i) (drop i ks))
+  known-asks = write-asks (f .writing) keys-left
+
+  module _ {c : ℕ} (is : c ≡ sizeOf e (take (length ks - i) (drop i ks)) 0) where
+    pub known-room : Room ks i c from table n
+    known-room = room-asks (f .writing) keys-left is
+
+    pub known-fits : Fits w64 (i + c)
+    known-fits = write-fits (f .writing) keys-left is
+
+    pub known-on : {table′ : List ℕ} → n < m - 1 → table′ ≡ sets table (5 * n) (rowOf from (segmentOf ks i c)) → Filling e ks from t m (i + c) (n + 1) table′
+    known-on h wrote = record { writing = write-on (f .writing) keys-left is wrote; known = f .known; below = omega (arith, h) }
+
+  module _ (over : m - 1 ≤ n) where
+    at-last : n + 1 ≡ length (cut e ks)
+    at-last = omega (arith, f .known, f .below, over)
+
+    pub last-room : Room ks i (length ks - i) from table n
+    last-room = room-asks (f .writing) keys-left (last-lent (f .writing .count) at-last)
+
+    pub last-done : {table′ : List ℕ} → table′ ≡ sets table (5 * n) (rowOf from (segmentOf ks i (length ks - i))) → table′ ≡ rowsOf from (cut e ks) ++ drop (5 * m) t
+    last-done wrote =
+        let same : n + 1 ≡ m = at-last ∙ sym (f .known) in
+        write-end (write-on (f .writing) keys-left (last-lent (f .writing .count) at-last) wrote) (omega arith)
+        ∙ ap (λ (l : ℕ). rowsOf from (cut e ks) ++ drop (5 * l) t) same
+
+pub ruleset known-cases = (known-some, known-start, known-inside, known-asks, lent-counts, known-room, known-fits, known-on, last-room, last-done)

@@ -1,4 +1,5 @@
 -- 01, "Segment i has five numbers in the table: first key, base, rise, run, held." The cells of a cut's segments; "Held" is 0.
+use mathlib.Core.Path.{_≡_}
 use mathlib.Core.List.{List, [], _∷_, _++_}
 use Prim.Native.Nat.{ℕ, _+_, _-_, _*_, _≤_, _<_}
 use lib.ListN.{length, getD}
@@ -31,3 +32,9 @@ pub record Writable (e : ℕ) (ks : List ℕ) (from : ℕ) (table : List ℕ) : 
   pub keys : Cuttable e ks
   pub room : 5 * length (cut e ks) ≤ length table
   pub place : from + length ks ≤ nMost
+
+-- and that there are t segments, if that is known
+pub record Known (e : ℕ) (ks : List ℕ) (from : ℕ) (table : List ℕ) (t : ℕ) : Type 0 where
+  pub writable : Writable e ks from table
+  pub some : 0 < length ks
+  pub pieces : t ≡ length (cut e ks)

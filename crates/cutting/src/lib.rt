@@ -9,7 +9,7 @@ ghost use lib.ListN.{length, drop};
 ghost use lib.Seq.{sets};
 ghost use Rattle.cone.specs.Rule.{segmentOf, cut};
 ghost use Rattle.cone.specs.Keys.{Cuttable};
-ghost use Rattle.cutting.specs.Rows.{rowOf, rowsOf, Stretch, Room, Writable};
+ghost use Rattle.cutting.specs.Rows.{rowOf, rowsOf, Stretch, Room, Writable, Known};
 ghost use Rattle.cutting.specs.Ends.{sizeOf, Startable};
 
 // How many keys the segment that starts at the first key has. This is the loop over the keys, so it keeps nothing but the cone, and it
@@ -91,4 +91,23 @@ pub fn write_segments(e: usize, keys: &[u64], from: usize, table: &mut [u64]) ->
         n += 1;
     }
     n
+}
+
+// Writes the same entries where it is known how many they are: the last segment has all the keys that are left, so that these are not
+// walked again.
+pub fn write_known(e: usize, keys: &[u64], from: usize, table: &mut [u64], t: usize)
+    requires { ⌜ Known e (now keys) from (now table) t ⌝ }
+    ensures { λ _. ⌜ now (table .exit) ≡ rowsOf from (cut e (now (keys .entry))) ++ drop (5 * t) (now (table .entry)) ⌝ }
+{
+    let last = t - 1;
+    let mut i: usize = 0;
+    let mut n: usize = 0;
+    while n < last {
+        let c = first_size(e, &keys[i..]);
+        close(keys, i, c, from, table, n);
+        i += c;
+        n += 1;
+    }
+    let left = keys.len() - i;
+    close(keys, i, left, from, table, n);
 }

@@ -25,7 +25,7 @@ use Rattle.cone.specs.Rule.{Segment, cut}
 use Rattle.cone.specs.Cover.{Tiled}
 use Rattle.cone.specs.Keys.{Cuttable}
 use Rattle.cone.proofs.Cover.{parted}
-use Rattle.cutting.specs.Rows.{rowsOf}
+use Rattle.cutting.specs.Rows.{rowsOf, Known}
 use Rattle.lookup.proofs.Laws.{slot-inside}
 use Rattle.moves.specs.Shift.{shiftUp}
 use Rattle.moves.specs.Join.{Puttable}
@@ -198,16 +198,33 @@ pub ruleset rows-cases = (rows-asks, rows-raised)
 
 -- ---- the new entries
 
-pub recut-done :
-    (e b : ℕ) (x : Entry) (keys : List ℕ) (i : ℕ) (table : List ℕ) → Recuttable e b x keys i table → {r : ℕ} {new : List ℕ}
-    → r ≡ length (cut e (joinedPart b x keys))
-    → new ≡ rowsOf (x .base .0) (cut e (joinedPart b x keys)) ++ drop (5 * r) (take (length table - 5 * i) (drop (5 * i) table))
-    → putMid (5 * i) (length table - 5 * i) table new ≡ recutTable e b x keys i table
-unfolding recutTable
-recut-done e b x keys i table asked {r} {new} count is =
-    tail-back table new (5 * i) (omega (arith, asked .rows)) ∙ ap (λ (q : List ℕ). take (5 * i) table ++ q) (is ∙ rw (count, tail-is table (5 * i)) refl)
+module _ (e b : ℕ) (x : Entry) (keys : List ℕ) (i t : ℕ) (table : List ℕ) (asked : Recuttable e b x keys i t table) where
+  part-length : length (joinedPart b x keys) ≡ x .end .0 + b - x .base .0
+  part-length = omega (arith, length-take (x .end .0 + b - x .base .0) (drop (x .base .0) keys), length-drop (x .base .0) keys, asked .some, asked .room)
 
-pub ruleset recut-cases = (recut-done)
+  pub recut-asks : Known e (joinedPart b x keys) (x .base .0) (take (length table - 5 * i) (drop (5 * i) table)) t
+  recut-asks =
+      rw (tail-is table (5 * i))
+      (record {
+        writable =
+            record {
+              keys = asked .keys-rise;
+              room = omega (arith, asked .pieces, asked .rows, length-drop (5 * i) table);
+              place = omega (arith, part-length, asked .some, asked .most);
+            };
+        some = omega (arith, part-length, asked .some);
+        pieces = asked .pieces;
+      })
+
+  pub recut-done :
+      {new : List ℕ} → new ≡ rowsOf (x .base .0) (cut e (joinedPart b x keys)) ++ drop (5 * t) (take (length table - 5 * i) (drop (5 * i) table))
+      → putMid (5 * i) (length table - 5 * i) table new ≡ recutTable e b x keys i table
+  unfolding recutTable
+  recut-done {new} is =
+      tail-back table new (5 * i) (omega (arith, asked .rows))
+      ∙ ap (λ (q : List ℕ). take (5 * i) table ++ q) (is ∙ rw (tail-is table (5 * i)) (ap (λ (m : ℕ). rowsOf (x .base .0) (cut e (joinedPart b x keys)) ++ drop (5 * m) (drop (5 * i) table)) (asked .pieces)))
+
+pub ruleset recut-cases = (recut-asks, recut-done)
 
 -- ---- all of it
 
@@ -394,7 +411,7 @@ module _ (e b n s : ℕ) (keys table buffers : List ℕ) (i t k : ℕ) (asked : 
       join-keys-done = keyed ∙ rw entry refl
 
       module _ {T : List ℕ} (raisen : T ≡ rowsUp b s i t table) where
-        pub join-recut : Recuttable e b x K i T
+        pub join-recut : Recuttable e b x K i t T
         join-recut =
             let p : joinedPart b (entryIn σ i) K ≡ mergedWith σ i k = part-joined join-keys-done in
             rw entry
@@ -403,7 +420,8 @@ module _ (e b n s : ℕ) (keys table buffers : List ℕ) (i t k : ℕ) (asked : 
               most = omega (arith, asked .sound, keys-most);
               room = length-keys join-keys-done;
               keys-rise = rw p joined-cuts;
-              rows = rw p (rw (← asked .pieces) (long-table raisen));
+              pieces = rw p (asked .pieces);
+              rows = long-table raisen;
             })
 
         pub join-table-done : {T′ : List ℕ} → T′ ≡ recutTable e b x K i T → T′ ≡ mergedTable (storeOf e b n s keys table buffers) i k t

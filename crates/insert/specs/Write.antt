@@ -92,12 +92,13 @@ unfoldable pub recutTable : ℕ → ℕ → Entry → List ℕ → ℕ → List 
 recutTable e b x keys i table =
     take (5 * i) table ++ (rowsOf (x .base .0) (cut e (joinedPart b x keys)) ++ drop (5 * length (cut e (joinedPart b x keys))) (drop (5 * i) table))
 
-pub record Recuttable (e b : ℕ) (x : Entry) (keys : List ℕ) (i : ℕ) (table : List ℕ) : Type 0 where
+pub record Recuttable (e b : ℕ) (x : Entry) (keys : List ℕ) (i t : ℕ) (table : List ℕ) : Type 0 where
   pub some : x .base .0 < x .end .0
   pub most : x .end .0 + b ≤ nMost
   pub room : x .end .0 + b ≤ length keys
   pub keys-rise : Cuttable e (joinedPart b x keys)
-  pub rows : 5 * i + 5 * length (cut e (joinedPart b x keys)) ≤ length table
+  pub pieces : t ≡ length (cut e (joinedPart b x keys))
+  pub rows : 5 * i + 5 * t ≤ length table
 
 -- ---- merged: all of it
 

@@ -331,15 +331,15 @@ fn make_room(b: usize, s: usize, table: &mut [u64], buffers: &mut [u64], i: usiz
     raise_later(b, s, table, i, t);
 }
 
-// The merged part of the key slice is cut, and its entries stand in the table from entry i on.
-fn recut(e: usize, b: usize, x: Entry, keys: &[u64], table: &mut [u64], i: usize) -> usize
-    requires { ⌜ Recuttable e b x (now keys) i (now table) ⌝ }
+// The merged part of the key slice is cut, and its t entries stand in the table from entry i on.
+fn recut(e: usize, b: usize, x: Entry, keys: &[u64], table: &mut [u64], i: usize, t: usize)
+    requires { ⌜ Recuttable e b x (now keys) i t (now table) ⌝ }
     ensures { λ _. ⌜ now (table .exit) ≡ recutTable e b x (now (keys .entry)) i (now (table .entry)) ⌝ }
 {
     let base = x.base.0;
     let stop = x.end.0 + b;
     let row = 5 * i;
-    cutting::write_segments(e, &keys[base..stop], base, &mut table[row..])
+    cutting::write_known(e, &keys[base..stop], base, &mut table[row..], t);
 }
 
 // The merge of segment i with k, into t segments.
@@ -363,7 +363,7 @@ fn join(
     let x = table::entry_at(table, n, s, i);
     join_keys(b, n, x, keys, buffers, i, k);
     make_room(b, s, table, buffers, i, t);
-    recut(e, b, x, keys, table, i);
+    recut(e, b, x, keys, table, i, t);
 }
 
 // Inserts k. Refusals in this order: 1, 2, 9 (entry, buffer), 5, 9 (merge), 6, 7.

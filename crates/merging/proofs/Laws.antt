@@ -22,18 +22,24 @@ use Rattle.terms.specs.Limits.{keyLimit}
 use Rattle.order.specs.declared.Cursor.{Cursor}
 use Rattle.order.specs.declared.Next.{Next}
 use Rattle.order.specs.declared.Next.the-variants.{Key, Done}
-use Rattle.order.specs.Order.{keyStart, restOf, nextOf}
-use Rattle.order.proofs.Rest.{next-key, next-end, key-all}
+use Rattle.order.specs.Order.{keyStart, pastRun, restOf, nextOf, boundOf}
+use Rattle.order.proofs.Rest.{next-key, next-end, key-all, run-comes}
 use Rattle.cone.specs.declared.Cone.{Cone}
 use Rattle.cone.specs.declared.Step.{Step}
 use Rattle.cone.specs.declared.Step.the-variants.{Joined, Apart}
 use Rattle.cone.specs.Rule.{cut}
 use Rattle.cone.specs.Step.{Ready, startOf, grown, lets, stepOf}
 use Rattle.cone.proofs.Laws.{step-joined}
-use Rattle.cone.proofs.Walk.{Walk, Next as NextKey, walk-start, walk-ready, walk-joined, walk-apart, walk-counts}
+use Rattle.cone.proofs.Walk.{Next as NextKey, walk-start, walk-ready, walk-joined, walk-apart, walk-counts}
 use Rattle.merging.specs.declared.Cutting.{Cutting}
 use Rattle.merging.specs.declared.Cutting.the-variants.{Pieces, Unruly}
+use Rattle.merging.specs.declared.Walked.{Walked}
+use Rattle.merging.specs.declared.Taken.{Taken}
+use Rattle.merging.specs.declared.Taken.the-variants.{To, Fallen}
+use Rattle.merging.specs.declared.Turn.{Turn}
+use Rattle.merging.specs.declared.Turn.the-variants.{On, Over, Fell}
 use Rattle.merging.specs.Judged.{afterOf, piecesOf, Judgeable, Begun}
+use Rattle.merging.specs.Walked.{Counting, Takable, Took, Takes, Turned, Turns, Through, Gone, Goes, Going}
 
 -- ---- after
 
@@ -155,16 +161,7 @@ pub ruleset rises-cases = (rises-none, rises-first, rises-large)
 
 pub ruleset pieces-cases = (pieces-none, pieces-large, pieces-begun)
 
--- ---- counting along it: the walk has come to j, and the cursor has the rest
-
-pub record Counting (e : ℕ) (run used : List ℕ) (k closed : ℕ) (c : Cone) (m : Cursor) (last : ℕ) : Type 0 where
-  pub asked : Judgeable e run used
-  pub base : ℕ
-  pub come : ℕ
-  pub walk : Walk e (merge run (insertSorted k used)) closed base come c
-  pub rest : drop come (merge run (insertSorted k used)) ≡ restOf m run used k
-  pub ordered : c .origin .0 ≤ last
-  pub so-far : upOf 0 keyLimit (merge run (insertSorted k used)) ≡ upOf (suc last) keyLimit (restOf m run used k)
+-- ---- counting along it
 
 module _ (e : ℕ) (run used : List ℕ) (k : ℕ) where
   abbrev keys : List ℕ
@@ -173,7 +170,7 @@ module _ (e : ℕ) (run used : List ℕ) (k : ℕ) where
   few-keys : Judgeable e run used → length keys ≡ length run + (length used + 1)
   few-keys asked = omega (arith, length-merge run (insertSorted k used), length-insert k used)
 
-  pub count-start : (m : Cursor) {x : ℕ} {c : Cone} → Begun e m x run used k → c ≡ startOf e x → Counting e run used k 0 c m x
+  pub count-start : (m : Cursor) {x : ℕ} {c : Cone} → Begun e m x run used k → c ≡ startOf e x → Counting e run used k (record { at = m; last = x; closed = 0; cone = c })
   count-start m {x} begun is =
       let some : 0 < length keys = omega (arith, ap length (begun .first)) in
       let small : ltb x keyLimit ≡ true = lt-ltb _ _ (begun .key) in
@@ -188,79 +185,195 @@ module _ (e : ℕ) (run used : List ℕ) (k : ℕ) where
         so-far = ap (upOf 0 keyLimit) (begun .first) ∙ up-on 0 x (restOf m run used k) (first-key x refl) small;
       })
 
-  module _ (closed : ℕ) (c : Cone) (m : Cursor) (last : ℕ) (w : Counting e run used k closed c m last) {n : Next} (is : n ≡ nextOf m run used k) where
-    pub count-end : n ≡ Done → Pieces (closed + 1) ≡ piecesOf e (merge run (insertSorted k used))
-    unfolding piecesOf upOf
-    count-end q =
-        let none : restOf m run used k ≡ [] = next-end m run used k (sym is ∙ q) in
-        let up : upOf 0 keyLimit keys ≡ true = w .so-far ∙ ap (upOf (suc last) keyLimit) none in
-        let over : length keys ≤ w .come = omega (arith, length-drop (w .come) keys, ap length (w .rest ∙ none)) in
-        simp up (ap Pieces (walk-counts (w .walk) over))
+  pub count-end : (w : Walked) → Counting e run used k w → {n : Next} → n ≡ nextOf (w .at) run used k → n ≡ Done → Pieces (w .closed + 1) ≡ piecesOf e (merge run (insertSorted k used))
+  unfolding piecesOf upOf
+  count-end w counting is q =
+      let none : restOf (w .at) run used k ≡ [] = next-end (w .at) run used k (sym is ∙ q) in
+      let up : upOf 0 keyLimit keys ≡ true = counting .so-far ∙ ap (upOf (suc (w .last)) keyLimit) none in
+      let over : length keys ≤ counting .come = omega (arith, length-drop (counting .come) keys, ap length (counting .rest ∙ none)) in
+      simp up (ap Pieces (walk-counts (counting .walk) over))
 
-    module _ {x : ℕ} {past : Cursor} (key : n ≡ Key x past) {r : Bool} (tested : r ≡ afterOf last x) where
-      heads : drop (w .come) keys ≡ x ∷ restOf past run used k
-      heads = w .rest ∙ head-is run used k m is key
+  pub count-small : (w : Walked) → Counting e run used k w → Fits w64 (w .closed + 1)
+  count-small w c = record { fits = omega (arith, c .walk .closed, c .walk .segment .counted, c .walk .segment .inside, few-keys (c .asked), c .asked .few) }
 
-      pub count-fallen : r ≡ false → Unruly ≡ piecesOf e (merge run (insertSorted k used))
+  -- one key more
+  module _ (w : Walked) (x : ℕ) (past : Cursor) (takable : Takable e run used k w x past) where
+    here : Counting e run used k w
+    here = takable .counting
+
+    rest-is : restOf (w .at) run used k ≡ x ∷ restOf past run used k
+    rest-is = next-key (w .at) run used k x past (takable .next)
+
+    heads : drop (here .come) keys ≡ x ∷ restOf past run used k
+    heads = here .rest ∙ rest-is
+
+    pub taken-small : Fits w64 (w .closed + 1)
+    taken-small = count-small w here
+
+    module _ {r : Bool} (tested : r ≡ afterOf (w .last) x) where
+      pub taken-fallen : r ≡ false → Unruly ≡ piecesOf e (merge run (insertSorted k used))
       unfolding piecesOf afterOf
-      count-fallen q =
+      taken-fallen q =
           let up : upOf 0 keyLimit keys ≡ false =
-          w .so-far ∙ ap (upOf (suc last) keyLimit) (head-is run used k m is key) ∙ up-off (suc last) x (restOf past run used k) tested q in
+          here .so-far ∙ ap (upOf (suc (w .last)) keyLimit) rest-is ∙ up-off (suc (w .last)) x (restOf past run used k) tested q in
           simp up
 
       module _ (yes : r ≡ true) where
-        next : NextKey keys (w .come) c x
+        next : NextKey keys (here .come) (w .cone) x
         unfolding afterOf
         next =
-            let t : (leb (suc last) x ≡ true) × (ltb x keyLimit ≡ true) = both-true (leb (suc last) x) (ltb x keyLimit) (sym tested ∙ yes) in
+            let t : (leb (suc (w .last)) x ≡ true) × (ltb x keyLimit ≡ true) = both-true (leb (suc (w .last)) x) (ltb x keyLimit) (sym tested ∙ yes) in
             record {
-              more = omega (arith, length-drop (w .come) keys, ap length heads);
-              is = sym (drop-head keys (w .come) x (restOf past run used k) 0 heads);
+              more = omega (arith, length-drop (here .come) keys, ap length heads);
+              is = sym (drop-head keys (here .come) x (restOf past run used k) 0 heads);
               small = ltb-true _ _ (t .1);
-              after = omega (arith, leb-true (suc last) x (t .0), w .ordered);
+              after = omega (arith, leb-true (suc (w .last)) x (t .0), here .ordered);
             }
 
-        pub count-ready : Ready e c (record { 0 = x })
-        count-ready = walk-ready (w .walk) next (w .asked .bound) (omega (arith, few-keys (w .asked), w .asked .few))
+        pub taken-ready : Ready e (w .cone) (record { 0 = x })
+        taken-ready = walk-ready (here .walk) next (here .asked .bound) (omega (arith, few-keys (here .asked), here .asked .few))
 
-        rest-on : drop (w .come + 1) keys ≡ restOf past run used k
-        rest-on = drop-next keys (w .come) x (restOf past run used k) heads
+        rest-on : drop (here .come + 1) keys ≡ restOf past run used k
+        rest-on = drop-next keys (here .come) x (restOf past run used k) heads
 
         up-next : upOf 0 keyLimit keys ≡ upOf (suc x) keyLimit (restOf past run used k)
         unfolding afterOf
-        up-next = w .so-far ∙ ap (upOf (suc last) keyLimit) (head-is run used k m is key) ∙ up-on (suc last) x (restOf past run used k) tested yes
+        up-next = here .so-far ∙ ap (upOf (suc (w .last)) keyLimit) rest-is ∙ up-on (suc (w .last)) x (restOf past run used k) tested yes
 
-        module _ {s : Step} (stepped : s ≡ stepOf e c x) where
-          pub count-joined : {d : Cone} → s ≡ Joined d → Counting e run used k closed d past x
-          count-joined {d} q =
-              let t : (lets c x ≡ true) × (d ≡ grown e c x) = step-joined e c x stepped q in
+        module _ {s : Step} (stepped : s ≡ stepOf e (w .cone) x) where
+          pub taken-joined : {d : Cone} → s ≡ Joined d → Took e run used k past (record { at = past; last = x; closed = w .closed; cone = d })
+          taken-joined {d} q =
+              let t : (lets (w .cone) x ≡ true) × (d ≡ grown e (w .cone) x) = step-joined e (w .cone) x stepped q in
               record {
-                asked = w .asked;
-                base = w .base;
-                come = w .come + 1;
-                walk = walk-joined (w .walk) next stepped q;
-                rest = rest-on;
-                ordered = omega (arith, ap (λ (v : Cone). v .origin .0) (t .1), next .after);
-                so-far = up-next;
+                counting =
+                    record {
+                      asked = here .asked;
+                      base = here .base;
+                      come = here .come + 1;
+                      walk = walk-joined (here .walk) next stepped q;
+                      rest = rest-on;
+                      ordered = omega (arith, ap (λ (v : Cone). v .origin .0) (t .1), next .after);
+                      so-far = up-next;
+                    };
+                at-past = refl;
               }
 
-          pub count-apart : {d : Cone} → s ≡ Apart → d ≡ startOf e x → Counting e run used k (closed + 1) d past x
-          count-apart q start =
+          pub taken-apart : {d : Cone} → s ≡ Apart → d ≡ startOf e x → Took e run used k past (record { at = past; last = x; closed = w .closed + 1; cone = d })
+          taken-apart {d} q start =
               rw start
               (record {
-                asked = w .asked;
-                base = w .come;
-                come = w .come + 1;
-                walk = walk-apart (w .walk) next stepped q;
-                rest = rest-on;
-                ordered = omega arith;
-                so-far = up-next;
+                counting =
+                    record {
+                      asked = here .asked;
+                      base = here .come;
+                      come = here .come + 1;
+                      walk = walk-apart (here .walk) next stepped q;
+                      rest = rest-on;
+                      ordered = omega arith;
+                      so-far = up-next;
+                    };
+                at-past = refl;
               })
 
-  pub count-small : (closed : ℕ) (c : Cone) (m : Cursor) (last : ℕ) → Counting e run used k closed c m last → Fits w64 (closed + 1)
-  count-small closed c m last w = record { fits = omega (arith, w .walk .closed, w .walk .segment .counted, w .walk .segment .inside, few-keys (w .asked), w .asked .few) }
+pub ruleset taken-cases = (taken-small, taken-fallen, taken-ready, taken-joined, taken-apart)
 
-pub ruleset count-cases = (count-start, count-small, rest-less, count-end, count-fallen, count-ready, count-joined, count-apart)
+-- ---- a stretch of the run
+
+module _ (e : ℕ) (run used : List ℕ) (k : ℕ) where
+  pub going-start : (w : Walked) (y : ℕ) → Through e run used k w y → Going e run used k y w w
+  going-start w y asked = record { gone = record { counting = asked .counting; most = omega arith }; bound = asked .bound }
+
+  module _ (y : ℕ) (w v : Walked) (going : Going e run used k y w v) where
+    pub going-end : Gone e run used k w v
+    going-end = going .gone
+
+    module _ (more : v .at .i < length run) (up : getD run (v .at .i) 0 ≤ y) where
+      pub going-asks : Takable e run used k v (getD run (v .at .i) 0) (pastRun (v .at))
+      going-asks = record { counting = going .gone .counting; next = run-comes (v .at) run used k y (going .bound) more up }
+
+      module _ {t : Taken} (takes : Takes e run used k (pastRun (v .at)) t) where
+        pub going-fallen : t ≡ Fallen → Unruly ≡ piecesOf e (merge run (insertSorted k used))
+        going-fallen q = rw q at takes
+
+        module _ {u : Walked} (q : t ≡ To u) where
+          took : Took e run used k (pastRun (v .at)) u
+          took = rw q at takes
+
+          shorter : length (restOf (u .at) run used k) < length (restOf (v .at) run used k)
+          shorter =
+              omega (arith, ap (λ (m : Cursor). length (restOf m run used k)) (took .at-past), ap length (next-key (v .at) run used k (getD run (v .at .i) 0) (pastRun (v .at)) (going-asks .next)))
+
+          pub going-less : length (restOf (u .at) run used k) < length (restOf (v .at) run used k)
+          going-less = shorter
+
+          pub going-on : Going e run used k y w u
+          going-on =
+              record {
+                gone = record { counting = took .counting; most = omega (arith, shorter, going .gone .most) };
+                bound = going .bound ∙ sym (ap (λ (m : Cursor). boundOf m used k) (took .at-past));
+              }
+
+pub ruleset through-cases = (going-start, going-end, going-asks, going-fallen, going-less, going-on)
+
+-- ---- the next key, whichever it is
+
+module _ (e : ℕ) (run used : List ℕ) (k : ℕ) (w : Walked) (counting : Counting e run used k w) {n : Next} (is : n ≡ nextOf (w .at) run used k) where
+  pub turn-over : n ≡ Done → Pieces (w .closed + 1) ≡ piecesOf e (merge run (insertSorted k used))
+  turn-over p = count-end e run used k w counting is p
+
+  module _ {z : ℕ} {past : Cursor} (p : n ≡ Key z past) where
+    pub turn-asks : Takable e run used k w z past
+    turn-asks = record { counting = counting; next = sym is ∙ p }
+
+    module _ {u : Taken} (takes : Takes e run used k past u) where
+      pub turn-fell : u ≡ Fallen → Unruly ≡ piecesOf e (merge run (insertSorted k used))
+      turn-fell f = rw f at takes
+
+      pub turn-on : {v : Walked} → u ≡ To v → Turned e run used k w v
+      turn-on {v} f =
+          let took : Took e run used k past v = rw f at takes in
+          record {
+            counting = took .counting;
+            less = omega (arith, ap (λ (m : Cursor). length (restOf m run used k)) (took .at-past), ap length (next-key (w .at) run used k z past (sym is ∙ p)));
+          }
+
+pub ruleset turn-cases = (count-small, turn-over, turn-asks, turn-fell, turn-on)
+
+-- ---- from one of the others to the next
+
+module _ (e : ℕ) (run used : List ℕ) (k : ℕ) (w : Walked) where
+  pub on-through : {y : ℕ} → Counting e run used k w → y ≡ boundOf (w .at) used k → Through e run used k w y
+  on-through counting is = record { counting = counting; bound = is }
+
+  module _ {t : Taken} (goes : Goes e run used k w t) where
+    pub on-gone-fallen : t ≡ Fallen → Unruly ≡ piecesOf e (merge run (insertSorted k used))
+    on-gone-fallen q = rw q at goes
+
+    module _ {v : Walked} (q : t ≡ To v) where
+      gone : Gone e run used k w v
+      gone = rw q at goes
+
+      pub on-asks : Counting e run used k v
+      on-asks = gone .counting
+
+      module _ {u : Turn} (turns : Turns e run used k v u) where
+        pub on-fell : u ≡ Fell → Unruly ≡ piecesOf e (merge run (insertSorted k used))
+        on-fell f = rw f at turns
+
+        pub on-over : {c : ℕ} → u ≡ Over c → Pieces c ≡ piecesOf e (merge run (insertSorted k used))
+        on-over f = rw f at turns
+
+        module _ {then : Walked} (f : u ≡ On then) where
+          turned : Turned e run used k v then
+          turned = rw f at turns
+
+          pub on-counting : Counting e run used k then
+          on-counting = turned .counting
+
+          pub on-less : length (restOf (then .at) run used k) < length (restOf (w .at) run used k)
+          on-less = omega (arith, gone .most, turned .less)
+
+pub ruleset count-cases = (count-start, on-through, on-gone-fallen, on-asks, on-fell, on-over, on-counting, on-less)
 
 -- ---- what the answer says
 

@@ -7,16 +7,16 @@ pub recut-spec : {M : Type 1} → statement M
 recut-spec =
     tie.close
     (tie.spec
-    (λ c. search (recut-cases, needs))  -- add-to
+    (λ c. search (recut-cases, needs))  -- add-stop
     (λ c. search (recut-cases, needs))  -- mul-row
-    (λ c. search (recut-cases, needs))  -- mul-write-segments
-    (λ c. search (recut-cases, needs))  -- sub-write-segments
-    (λ c. search (recut-cases, needs))  -- part-write-segments-start
-    (λ c. search (recut-cases, needs))  -- part-write-segments-end
-    (λ c. search (recut-cases, needs))  -- mul-write-segments-2
-    (λ c. search (recut-cases, needs))  -- sub-write-segments-2
-    (λ c. search (recut-cases, needs))  -- part-write-segments-start-2
-    (λ c. search (recut-cases, needs))  -- part-write-segments-end-2
-    (λ c κs. search (recut-cases, needs))  -- write-segments-requires
+    (λ c. search (recut-cases, needs))  -- mul-write-known
+    (λ c. search (recut-cases, needs))  -- sub-write-known
+    (λ c. search (recut-cases, needs))  -- part-write-known-start
+    (λ c. search (recut-cases, needs))  -- part-write-known-end
+    (λ c. search (recut-cases, needs))  -- mul-write-known-2
+    (λ c. search (recut-cases, needs))  -- sub-write-known-2
+    (λ c. search (recut-cases, needs))  -- part-write-known-start-2
+    (λ c. search (recut-cases, needs))  -- part-write-known-end-2
+    (λ c κs. search (recut-cases, needs))  -- write-known-requires
     (λ c. search (recut-cases, needs))  -- same-length
     (λ c. search (recut-cases, needs)))

@@ -1,0 +1,73 @@
+-- The walk that counts the segments of a merged order, key by key: how far it has come, and what one key more or a stretch of the run makes of it.
+use mathlib.Core.Path.{_≡_}
+use mathlib.Core.List.{List}
+use Prim.Native.Nat.{ℕ, suc, _≤_, _<_}
+use lib.ListN.{length, drop}
+use Rattle.lists.specs.Rising.{upOf}
+use Rattle.lists.specs.Merge.{merge, insertSorted}
+use Rattle.terms.specs.Limits.{keyLimit}
+use Rattle.order.specs.declared.Cursor.{Cursor}
+use Rattle.order.specs.declared.Next.the-variants.{Key}
+use Rattle.order.specs.Order.{restOf, nextOf, boundOf}
+use Rattle.cone.specs.declared.Cone.{Cone}
+use Rattle.cone.proofs.Walk.{Walk}
+use Rattle.merging.specs.declared.Cutting.the-variants.{Pieces, Unruly}
+use Rattle.merging.specs.declared.Walked.{Walked}
+use Rattle.merging.specs.declared.Taken.{Taken}
+use Rattle.merging.specs.declared.Taken.the-variants.{To, Fallen}
+use Rattle.merging.specs.declared.Turn.{Turn}
+use Rattle.merging.specs.declared.Turn.the-variants.{On, Over, Fell}
+use Rattle.merging.specs.Judged.{piecesOf, Judgeable}
+
+-- the walk has come to the cursor, which has the rest
+pub record Counting (e : ℕ) (run used : List ℕ) (k : ℕ) (w : Walked) : Type 0 where
+  pub asked : Judgeable e run used
+  pub base : ℕ
+  pub come : ℕ
+  pub walk : Walk e (merge run (insertSorted k used)) (w .closed) base come (w .cone)
+  pub rest : drop come (merge run (insertSorted k used)) ≡ restOf (w .at) run used k
+  pub ordered : w .cone .origin .0 ≤ w .last
+  pub so-far : upOf 0 keyLimit (merge run (insertSorted k used)) ≡ upOf (suc (w .last)) keyLimit (restOf (w .at) run used k)
+
+-- x comes next
+pub record Takable (e : ℕ) (run used : List ℕ) (k : ℕ) (w : Walked) (x : ℕ) (past : Cursor) : Type 0 where
+  pub counting : Counting e run used k w
+  pub next : nextOf (w .at) run used k ≡ Key x past
+
+-- it is counted
+pub record Took (e : ℕ) (run used : List ℕ) (k : ℕ) (past : Cursor) (v : Walked) : Type 0 where
+  pub counting : Counting e run used k v
+  pub at-past : v .at ≡ past
+
+-- or the merged order does not rise
+abbrev pub Takes : ℕ → List ℕ → List ℕ → ℕ → Cursor → Taken → Type 0
+Takes e run used k past (To v) = Took e run used k past v
+Takes e run used k past Fallen = Unruly ≡ piecesOf e (merge run (insertSorted k used))
+
+-- the next key, whichever it is, or none
+pub record Turned (e : ℕ) (run used : List ℕ) (k : ℕ) (w v : Walked) : Type 0 where
+  pub counting : Counting e run used k v
+  pub less : length (restOf (v .at) run used k) < length (restOf (w .at) run used k)
+
+abbrev pub Turns : ℕ → List ℕ → List ℕ → ℕ → Walked → Turn → Type 0
+Turns e run used k w (On v) = Turned e run used k w v
+Turns e run used k w (Over t) = Pieces t ≡ piecesOf e (merge run (insertSorted k used))
+Turns e run used k w Fell = Unruly ≡ piecesOf e (merge run (insertSorted k used))
+
+-- the run's keys up to y come next
+pub record Through (e : ℕ) (run used : List ℕ) (k : ℕ) (w : Walked) (y : ℕ) : Type 0 where
+  pub counting : Counting e run used k w
+  pub bound : y ≡ boundOf (w .at) used k
+
+pub record Gone (e : ℕ) (run used : List ℕ) (k : ℕ) (w v : Walked) : Type 0 where
+  pub counting : Counting e run used k v
+  pub most : length (restOf (v .at) run used k) ≤ length (restOf (w .at) run used k)
+
+abbrev pub Goes : ℕ → List ℕ → List ℕ → ℕ → Walked → Taken → Type 0
+Goes e run used k w (To v) = Gone e run used k w v
+Goes e run used k w Fallen = Unruly ≡ piecesOf e (merge run (insertSorted k used))
+
+-- the loop over the run: what is left of it, too, comes up to y
+pub record Going (e : ℕ) (run used : List ℕ) (k y : ℕ) (w v : Walked) : Type 0 where
+  pub gone : Gone e run used k w v
+  pub bound : y ≡ boundOf (v .at) used k
