@@ -12,7 +12,7 @@ use borrow.Author.Tests.{leb-true, le-leb, ltb-true, ltb-false}
 use Rattle.lists.specs.Tests.{pick, both}
 use Rattle.lists.proofs.Tests.{both-true, true-both, same-test, either}
 use Rattle.products.specs.declared.Wide.{Wide}
-use Rattle.products.specs.Products.{Single, Comparable, Slackened}
+use Rattle.products.specs.Products.{Single, Comparable, Ordered}
 use Rattle.terms.specs.declared.Key.{Key}
 use Rattle.terms.specs.Limits.{keyLimit}
 use Rattle.cone.specs.declared.Frac.{Frac}
@@ -20,7 +20,7 @@ use Rattle.cone.specs.declared.Cone.{Cone}
 use Rattle.cone.specs.declared.Step.{Step}
 use Rattle.cone.specs.declared.Step.the-variants.{Joined, Apart}
 use Rattle.cone.specs.Rule.{far, Joins, joins}
-use Rattle.cone.specs.Step.{Ready, startOf, newFlat, newSteep, flatOf, steepOf, grown, lets, stepOf}
+use Rattle.cone.specs.Step.{Ready, Passing, startOf, newFlat, newSteep, flatOf, steepOf, grown, lets, stepOf}
 use Rattle.cone.proofs.Numbers.{wide, wide′, over, under, slack-more}
 use Rattle.cone.proofs.Rules.{joins-true, true-joins}
 use Rattle.cone.proofs.Tops
@@ -46,27 +46,17 @@ module _ (e : ℕ) (c : Cone) (key : Key) (ready : Ready e c key) where
   pub product-asks : Single e (key .0 - c .origin .0)
   product-asks = record { fits = omega (arith, wide′ e (key .0 - c .origin .0) (omega arith) (omega arith)) }
 
-  pub flatter-asks : Slackened (c .flat .top) (c .count) (key .0 - c .origin .0) (c .flat .bottom) (c .flat .slack .0)
-  flatter-asks =
-      record {
-        left = omega (arith, ready .flat-slack, wide (c .flat .top) (c .count) (ready .flat-top) (omega arith), wide′ e (c .flat .top) (omega arith) (ready .flat-top));
-        right = flat-asks .right;
-      }
+-- ---- the fractions that are kept, where both let the line to the key pass
 
-  pub steeper-asks : Slackened (c .steep .top) (key .0 - c .origin .0) (c .count) (c .steep .bottom) (c .steep .slack .0)
-  steeper-asks =
-      record {
-        left =
-            omega (
-              arith,
-              ready .steep-slack,
-              wide′ (c .steep .top) (key .0 - c .origin .0) (omega arith) (omega arith),
-              wide′ e (c .steep .bottom) (omega arith) (ready .steep-bottom),
-            );
-        right = steep-asks .right;
-      }
+module _ (e : ℕ) (c : Cone) (key : Key) (passing : Passing e c key) where
+  pub flatter-asks : Ordered (c .flat .top) (c .count) (key .0 - c .origin .0) (c .flat .bottom)
+  flatter-asks = record { order = passing .flat-lets; right = flat-asks e c key (passing .ready) .right }
 
-  -- ---- the fractions that are kept
+  pub steeper-asks : Ordered (c .steep .top) (key .0 - c .origin .0) (c .count) (c .steep .bottom)
+  steeper-asks = record { order = passing .steep-lets; right = steep-asks e c key (passing .ready) .right }
+
+  pub slack-asks : Single e (key .0 - c .origin .0)
+  slack-asks = product-asks e c key (passing .ready)
 
   module _ {r : Bool} (tested : r ≡ ltb (c .flat .top * c .count + c .flat .slack .0) ((key .0 - c .origin .0) * c .flat .bottom)) where
     pub flat-new : {w : Wide} → r ≡ true → w .0 ≡ e * (key .0 - c .origin .0) → record { top = key .0 - c .origin .0; bottom = c .count + e; slack = w } ≡ flatOf e c (key .0)
@@ -81,7 +71,7 @@ module _ (e : ℕ) (c : Cone) (key : Key) (ready : Ready e c key) where
     -- more than e keys: what is subtracted is not above
     pub steep-more : r ≡ true → e ≤ c .count
     steep-more q =
-        let h : c .steep .top * (key .0 - c .origin .0) + e * c .steep .bottom < c .count * c .steep .bottom = rw (← ready .steep-slack) (ltb-true _ _ (sym tested ∙ q)) in
+        let h : c .steep .top * (key .0 - c .origin .0) + e * c .steep .bottom < c .count * c .steep .bottom = rw (← passing .ready .steep-slack) (ltb-true _ _ (sym tested ∙ q)) in
         le-of-lt (slack-more (c .count) e (c .steep .bottom) (c .steep .top * (key .0 - c .origin .0)) h)
 
     pub steep-new : {w : Wide} → r ≡ true → w .0 ≡ e * (key .0 - c .origin .0) → record { top = c .count - e; bottom = key .0 - c .origin .0; slack = w } ≡ steepOf e c (key .0)
@@ -92,9 +82,9 @@ module _ (e : ℕ) (c : Cone) (key : Key) (ready : Ready e c key) where
     unfolding steepOf
     steep-old q = simp (sym tested ∙ q)
 
-pub ruleset flatter-cases = (product-asks, flatter-asks, flat-new, flat-old)
+pub ruleset flatter-cases = (slack-asks, flatter-asks, flat-new, flat-old)
 
-pub ruleset steeper-cases = (product-asks, steeper-asks, steep-more, steep-new, steep-old)
+pub ruleset steeper-cases = (slack-asks, steeper-asks, steep-more, steep-new, steep-old)
 
 -- ---- what a step answers
 
@@ -114,6 +104,16 @@ module _
         → Joined (record { origin = c .origin; count = c .count + 1; flat = f; steep = s }) ≡ stepOf e c key
     unfolding stepOf
     joins-it q f-is s-is = simp (sym below ∙ p, sym above ∙ q, f-is, s-is)
+
+-- the two tests that passed
+module _ (c : Cone) (key : Key) {u : Bool} where
+  pub flat-passed : u ≡ leb (c .flat .top * c .count) ((key .0 - c .origin .0) * c .flat .bottom) → u ≡ true → c .flat .top * c .count ≤ (key .0 - c .origin .0) * c .flat .bottom
+  flat-passed is p = leb-true _ _ (sym is ∙ p)
+
+  pub steep-passed : u ≡ leb (c .steep .top * (key .0 - c .origin .0)) (c .count * c .steep .bottom) → u ≡ true → c .steep .top * (key .0 - c .origin .0) ≤ c .count * c .steep .bottom
+  steep-passed is p = leb-true _ _ (sym is ∙ p)
+
+pub ruleset passed = (flat-passed, steep-passed)
 
 pub ruleset step-cases = (flat-asks, steep-asks, too-flat, too-steep, joins-it)
 

@@ -24,6 +24,12 @@ pub record Ready (e : ℕ) (c : Cone) (key : Key) : Type 0 where
   pub steep-bottom : c .steep .bottom < keyLimit
   pub steep-slack : c .steep .slack .0 ≡ e * c .steep .bottom
 
+-- and both fractions let the line to the key pass
+pub record Passing (e : ℕ) (c : Cone) (key : Key) : Type 0 where
+  pub ready : Ready e c key
+  pub flat-lets : c .flat .top * c .count ≤ (key .0 - c .origin .0) * c .flat .bottom
+  pub steep-lets : c .steep .top * (key .0 - c .origin .0) ≤ c .count * c .steep .bottom
+
 -- one key: the least fractions
 abbrev pub startOf : ℕ → ℕ → Cone
 startOf e key =

@@ -8,7 +8,7 @@ use native.Mathlib.Nat.{mul-le-mul, add-sub-cancel-left}
 use native.Mathlib.Numerals.{add-one}
 use native.Mathlib.Omega.{arith}
 use lib.Dec.{ltb, leb}
-use lib.ListN.{length, getD, take, drop, length-take}
+use lib.ListN.{length, getD, take, drop, length-take, length-drop}
 use borrow.Author.Tests.{le-leb, lt-leb, lt-ltb, le-ltb, ltb-true}
 use Rattle.lists.specs.Tests.{pick}
 use Rattle.lists.specs.Rising.{upOf}
@@ -29,13 +29,18 @@ use Rattle.table.proofs.Damages.{sound-of}
 use Rattle.table.proofs.Chosen.{chosen-below}
 use Rattle.scan.specs.declared.Found.{Found}
 use Rattle.scan.specs.declared.Found.the-variants.{At, Nothing}
-use Rattle.scan.specs.Scan.{failsOf}
+use Rattle.scan.specs.Scan.{lowestOf, failsOf, noneOf}
 use Rattle.scan.proofs.Laws.{fail-here, fail-on, fail-end}
 use Rattle.cone.proofs.Cover.{few}
 use Rattle.lookup.specs.declared.Looked.{Looked}
-use Rattle.lookup.specs.declared.Looked.the-variants.{InRun, InBuffer, Absent, Refused as NotLooked}
-use Rattle.lookup.specs.Lookup.{Searchable, searchedOf}
-use Rattle.lookup.proofs.Laws.{slot-inside}
+use Rattle.lookup.specs.Lookup.{slotOf, lowestIn, placeOr, bufferedOf, searchedOf}
+use Rattle.lookup.proofs.Laws.{slot-inside, find-asks}
+use Rattle.line.specs.declared.Span.{Span}
+use Rattle.line.specs.Line.{Lined, windowOf}
+use Rattle.seat.specs.declared.Seat.{Seat}
+use Rattle.seat.specs.declared.Seat.the-variants.{Unruly as Disordered, Taken, Free as Unused}
+use Rattle.seat.specs.Seat.{seatOf}
+use Rattle.seat.proofs.Answers.{unruly-falls as slots-fall, taken-there, free-none}
 use Rattle.merging.specs.declared.Cutting.{Cutting}
 use Rattle.merging.specs.declared.Cutting.the-variants.{Pieces, Unruly}
 use Rattle.merging.specs.Judged.{piecesOf as cutInto, Judgeable}
@@ -43,7 +48,7 @@ use Rattle.merging.proofs.Laws.{cut-rises, unruly-falls}
 use Rattle.insert.specs.declared.Inserted.{Inserted}
 use Rattle.insert.specs.declared.Inserted.the-variants.{Buffered, Merged, Refused}
 use Rattle.insert.specs.Insert.{mergedWith, piecesOf, roomFor, laterOk, laterFor, mergeFor, placedFor, unlessFound, segmentFor, insertOf}
-use Rattle.insert.specs.Decide.{passesOf, laterOf, roomedOf, soundFor, Counts, Keyed, Picked, Asked, Fitting, Crowded}
+use Rattle.insert.specs.Decide.{passesOf, laterOf, roomedOf, soundFor, Counts, Keyed, Picked, Seated, Asked, Free, Fitting, Crowded}
 
 -- ---- a later entry, and the lowest that is wrong
 
@@ -231,67 +236,107 @@ module _ (e b n s : ℕ) (keys table buffers : List ℕ) (x : Entry) (i k : ℕ)
 
   -- ---- into a slot, or a merge
 
-  module _ (picked : Picked (storeOf e b n s keys table buffers) x i) where
-    pub placed-slot : {j : ℕ} → x .held + 1 < b → j ≡ placeOf k (take (i * b + x .held - i * b) (drop (i * b) buffers)) → Buffered i j ≡ placedFor (storeOf e b n s keys table buffers) i k
+  module _ {p : ℕ} (seated : Seated (storeOf e b n s keys table buffers) x i p k) where
+    held-is : x .held ≡ entryIn σ i .held
+    held-is = ap (λ (y : Entry). y .held) (seated .picked .entry)
+
+    pub placed-slot : x .held + 1 < b → Buffered i p ≡ placedFor (storeOf e b n s keys table buffers) i k
     unfolding placedFor
-    placed-slot {j} h is =
-        let t : ltb (entryIn σ i .held + 1) b ≡ true = lt-ltb _ _ (rw (ap (λ (y : Entry). y .held) (picked .entry)) at h) in
-        let p : j ≡ placeOf k (take (entryIn σ i .held) (drop (i * b) buffers)) = is ∙ ap (placeOf k) used-now in
-        simp t (ap (Buffered i) p)
-      where
-        used-now : used ≡ take (entryIn σ i .held) (drop (i * b) buffers)
-        used-now = used-is picked ∙ ap (λ (y : Entry). take (y .held) (drop (i * b) buffers)) (picked .entry)
+    placed-slot h =
+        let t : ltb (entryIn σ i .held + 1) b ≡ true = lt-ltb _ _ (rw held-is at h) in
+        simp t (ap (Buffered i) (seated .place))
 
     module _ (full : b ≤ x .held + 1) where
       pub placed-merge : {a : Inserted} → a ≡ mergeFor (storeOf e b n s keys table buffers) i k → a ≡ placedFor (storeOf e b n s keys table buffers) i k
       unfolding placedFor
       placed-merge is =
-          let t : ltb (entryIn σ i .held + 1) b ≡ false = le-ltb _ _ (rw (ap (λ (y : Entry). y .held) (picked .entry)) at full) in
+          let t : ltb (entryIn σ i .held + 1) b ≡ false = le-ltb _ _ (rw held-is at full) in
           simp t is
 
       module _ {room : ℕ} (roomed : room ≡ keyRoom keys) where
         pub placed-fitting : n + b ≤ room → Fitting (storeOf e b n s keys table buffers) x i
-        placed-fitting h = record { picked = picked; room = omega (arith, roomed) }
+        placed-fitting h = record { picked = seated .picked; room = omega (arith, roomed) }
 
         pub placed-crowded : room < n + b → Crowded (storeOf e b n s keys table buffers) x i
-        placed-crowded h = record { picked = picked; no-room = omega (arith, roomed) }
+        placed-crowded h = record { picked = seated .picked; no-room = omega (arith, roomed) }
 
   -- ---- the used slots, and whether k is there
 
   module _ (asked : Asked (storeOf e b n s keys table buffers) x i k) where
-    pub sound-search : Searchable b keys buffers x i (keyOf k)
-    sound-search = omega (arith, asked .picked .limits, asked .picked .sound, asked .picked .slots-held, asked .key)
+    pub seat-asks : k < keyLimit
+    seat-asks = asked .key
 
-    pub sound-picked : Picked (storeOf e b n s keys table buffers) x i
-    sound-picked = asked .picked
+    used-now : used ≡ take (entryIn σ i .held) (drop (i * b) buffers)
+    used-now = used-is (asked .picked) ∙ ap (λ (y : Entry). take (y .held) (drop (i * b) buffers)) (asked .picked .entry)
 
-    module _ {r : Bool} (is : r ≡ upOf 0 keyLimit (take (i * b + x .held - i * b) (drop (i * b) buffers))) where
-      slots-is : r ≡ upOf 0 keyLimit (take (entryIn σ i .held) (drop (i * b) buffers))
-      slots-is = is ∙ ap (upOf 0 keyLimit) (used-is (asked .picked) ∙ ap (λ (y : Entry). take (y .held) (drop (i * b) buffers)) (asked .picked .entry))
+    -- the slots that are read are as many as are held
+    used-length : length (take (entryIn σ i .held) (drop (i * b) buffers)) ≡ entryIn σ i .held
+    used-length =
+        let h : x .held ≡ entryIn σ i .held = ap (λ (y : Entry). y .held) (asked .picked .entry) in
+        omega (arith, h, asked .picked .slots-held, length-take (entryIn σ i .held) (drop (i * b) buffers), length-drop (i * b) buffers)
 
-      pub sound-unruly : r ≡ false → Refused (StoreWrong i) ≡ soundFor (storeOf e b n s keys table buffers) i k
+    -- a lookup in the segment, by what the run and the slots say
+    rising-looks :
+        {f g : Found} → upOf 0 keyLimit (take (entryIn σ i .held) (drop (i * b) buffers)) ≡ true → f ≡ lowestIn keys (windowOf e x (keyOf k)) k
+        → lowestOf (take (entryIn σ i .held) (drop (i * b) buffers)) 0 (length (take (entryIn σ i .held) (drop (i * b) buffers))) k ≡ g
+        → unlessFound (placeOr (slotOf i g) f) (placedFor σ i k) ≡ soundFor σ i k
+    unfolding soundFor searchedOf bufferedOf
+    rising-looks {f} {g} up run-is slots-is =
+        let h : lowestOf (take (entryIn σ i .held) (drop (i * b) buffers)) 0 (entryIn σ i .held) k ≡ g = rw used-length at slots-is in
+        let w : f ≡ lowestIn keys (windowOf e (entryIn σ i) (keyOf k)) k = run-is ∙ ap (λ (y : Entry). lowestIn keys (windowOf e y (keyOf k)) k) (asked .picked .entry) in
+        simp up (ap (λ (v : Looked). unlessFound v (placedFor σ i k)) (ap (λ (v : Found). placeOr (slotOf i v) f) (sym h) ∙ ap (placeOr (slotOf i (lowestOf (take (entryIn σ i .held) (drop (i * b) buffers)) 0 (entryIn σ i .held) k))) w))
+
+    module _ {r : Seat} (is : r ≡ seatOf k (take (i * b + x .held - i * b) (drop (i * b) buffers))) where
+      seat-is : r ≡ seatOf k (take (entryIn σ i .held) (drop (i * b) buffers))
+      seat-is = is ∙ ap (seatOf k) used-now
+
+      pub sound-unruly : r ≡ Disordered → Refused (StoreWrong i) ≡ soundFor (storeOf e b n s keys table buffers) i k
       unfolding soundFor
-      sound-unruly q = simp (sym slots-is ∙ q)
+      sound-unruly q = simp (slots-fall k (take (entryIn σ i .held) (drop (i * b) buffers)) seat-is q)
 
-      module _ (rises : r ≡ true) {l : Looked} (looked : l ≡ searchedOf e b keys buffers x i (keyOf k)) where
-        found : {m : Looked} → l ≡ m → unlessFound m (placedFor σ i k) ≡ soundFor σ i k
-        unfolding soundFor
-        found {m} q =
-            let t : upOf 0 keyLimit (take (entryIn σ i .held) (drop (i * b) buffers)) ≡ true = sym slots-is ∙ rises in
-            let p : m ≡ searchedOf e b keys buffers (entryIn σ i) i (keyOf k) = sym q ∙ looked ∙ ap (λ (y : Entry). searchedOf e b keys buffers y i (keyOf k)) (asked .picked .entry) in
-            simp t (ap (λ (v : Looked). unlessFound v (placedFor σ i k)) p)
+      pub sound-taken : r ≡ Taken → Refused Present ≡ soundFor (storeOf e b n s keys table buffers) i k
+      sound-taken q = go (lowestOf slots 0 (length slots) k) refl (lowestIn keys (windowOf e x (keyOf k)) k) refl (there .1)
+        where
+          slots : List ℕ
+          slots = take (entryIn σ i .held) (drop (i * b) buffers)
 
-        pub sound-in-run : {p : _} → l ≡ InRun p → Refused Present ≡ soundFor (storeOf e b n s keys table buffers) i k
-        sound-in-run {p} q = found q
+          there : (upOf 0 keyLimit slots ≡ true) × (noneOf (lowestOf slots 0 (length slots) k) ≡ false)
+          there = taken-there k slots seat-is q
 
-        pub sound-in-buffer : {j m : ℕ} → l ≡ InBuffer j m → Refused Present ≡ soundFor (storeOf e b n s keys table buffers) i k
-        sound-in-buffer {j} {m} q = found q
+          go :
+              (g : Found) → lowestOf slots 0 (length slots) k ≡ g → (f : Found) → lowestIn keys (windowOf e x (keyOf k)) k ≡ f → noneOf (lowestOf slots 0 (length slots) k) ≡ false
+              → Refused Present ≡ soundFor σ i k
+          go (At j) g (At p) f n = rising-looks (there .0) (sym f) g
+          go (At j) g Nothing f n = rising-looks (there .0) (sym f) g
+          go Nothing g f h n = absurd (let z : _≡_ {A = ℕ} 0 1 = cc in omega arith)
 
-        pub sound-refused : {v : Refusal} → l ≡ NotLooked v → Refused v ≡ soundFor (storeOf e b n s keys table buffers) i k
-        sound-refused {v} q = found q
+      pub sound-free : {p : ℕ} → r ≡ Unused p → Free (storeOf e b n s keys table buffers) x i p k
+      sound-free q =
+          let f = free-none k (take (entryIn σ i .held) (drop (i * b) buffers)) seat-is q in
+          record { asked = asked; rising = f .0; none = f .1 .0; place = f .1 .1 }
 
-        pub sound-absent : {a : Inserted} → l ≡ Absent → a ≡ placedFor (storeOf e b n s keys table buffers) i k → a ≡ soundFor (storeOf e b n s keys table buffers) i k
-        sound-absent q a = a ∙ found q
+  -- ---- the run
+
+  module _ {p : ℕ} (free : Free (storeOf e b n s keys table buffers) x i p k) where
+    pub window-asks : Lined x (keyOf k)
+    window-asks = omega (arith, free .asked .picked .limits, free .asked .picked .sound, free .asked .key)
+
+    pub run-seated : Seated (storeOf e b n s keys table buffers) x i p k
+    run-seated = record { picked = free .asked .picked; place = free .place }
+
+    module _ {w : Span} (window : w ≡ windowOf e x (keyOf k)) where
+      pub run-asks : w .to .0 ≤ length keys
+      run-asks = find-asks e x (keyOf k) (length keys) window (omega (arith, free .asked .picked .limits, free .asked .picked .sound))
+
+    module _ {w : Span} {f : Found} (window : w ≡ windowOf e x (keyOf k)) (searched : f ≡ lowestOf keys (w .from .0) (w .to .0 - w .from .0) k) where
+      is : f ≡ lowestIn keys (windowOf e x (keyOf k)) k
+      is = cc
+
+      pub run-found : {q : ℕ} → f ≡ At q → Refused Present ≡ soundFor (storeOf e b n s keys table buffers) i k
+      run-found {q} found = rising-looks (free .asked) (free .rising) (sym found ∙ is) (free .none)
+
+      pub run-none : {a : Inserted} → f ≡ Nothing → a ≡ placedFor (storeOf e b n s keys table buffers) i k → a ≡ soundFor (storeOf e b n s keys table buffers) i k
+      run-none none a = a ∙ rising-looks (free .asked) (free .rising) (sym none ∙ is) (free .none)
 
 pub ruleset fitting-cases = (pieces-asks, fitting-row, fitting-unruly, fitting-counts, fitting-later, fitting-roomed)
 
@@ -299,7 +344,9 @@ pub ruleset crowded-cases = (crowded-row, crowded-falls, crowded-later, crowded-
 
 pub ruleset placed-cases = (placed-slot, placed-merge, placed-fitting, placed-crowded)
 
-pub ruleset sound-cases = (sound-search, sound-picked, sound-unruly, sound-in-run, sound-in-buffer, sound-refused, sound-absent)
+pub ruleset run-cases = (window-asks, run-asks, run-seated, run-found, run-none)
+
+pub ruleset sound-cases = (seat-asks, sound-unruly, sound-taken, sound-free)
 
 -- ---- the chosen segment
 

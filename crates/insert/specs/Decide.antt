@@ -1,12 +1,13 @@
 -- What the functions that decide an insert ask, and what they answer where they see only a part of the store.
 use mathlib.Core.Path.{_≡_}
-use mathlib.Core.Bool.{Bool}
+use mathlib.Core.Bool.{Bool, true}
 use mathlib.Core.List.{List}
 use Prim.Native.Nat.{ℕ, suc, _+_, _-_, _*_, _^_, _≤_, _<_}
 use lib.Dec.{ltb, leb}
 use lib.ListN.{length, getD}
 use Rattle.lists.specs.Tests.{pick, both}
 use Rattle.lists.specs.Rising.{upOf}
+use Rattle.lists.specs.Merge.{placeOf}
 use Rattle.terms.specs.Limits.{keyLimit, keyOf, sMost, nMost, bMost}
 use Rattle.terms.specs.declared.Entry.{Entry}
 use Rattle.terms.specs.declared.Refusal.the-variants.{SegmentRoom, StoreWrong}
@@ -16,7 +17,8 @@ use Rattle.table.specs.Entries.{entryIn, usedIn}
 use Rattle.table.specs.Damaged.{Sound}
 use Rattle.table.specs.Chosen.{chosenOf}
 use Rattle.scan.specs.declared.Found.{Found}
-use Rattle.scan.specs.Scan.{failsOf}
+use Rattle.scan.specs.declared.Found.the-variants.{Nothing}
+use Rattle.scan.specs.Scan.{lowestOf, failsOf}
 use Rattle.lookup.specs.Lookup.{searchedOf}
 use Rattle.insert.specs.declared.Inserted.{Inserted}
 use Rattle.insert.specs.declared.Inserted.the-variants.{Merged, Refused}
@@ -70,10 +72,22 @@ pub record Picked (σ : Store) (x : Entry) (i : ℕ) : Type 0 where
   pub slots-held : i * σ .b + x .held ≤ length (σ .buffers)
   pub slots-few : i * σ .b + x .held < 2 ^ 64
 
+-- and p is the rising place of k among them
+pub record Seated (σ : Store) (x : Entry) (i p k : ℕ) : Type 0 where
+  pub picked : Picked σ x i
+  pub place : p ≡ placeOf k (usedIn σ i)
+
 -- and k is a key
 pub record Asked (σ : Store) (x : Entry) (i k : ℕ) : Type 0 where
   pub picked : Picked σ x i
   pub key : k < keyLimit
+
+-- and the used slots are in order, k is none of them, and p is its rising place
+pub record Free (σ : Store) (x : Entry) (i p k : ℕ) : Type 0 where
+  pub asked : Asked σ x i k
+  pub rising : upOf 0 keyLimit (usedIn σ i) ≡ true
+  pub none : lowestOf (usedIn σ i) 0 (length (usedIn σ i)) k ≡ Nothing
+  pub place : p ≡ placeOf k (usedIn σ i)
 
 -- and the key slice has room for a merge
 pub record Fitting (σ : Store) (x : Entry) (i : ℕ) : Type 0 where

@@ -1,7 +1,7 @@
 // Insert: a key goes into the buffer of its segment, or the segment is merged and cut again. What it refuses it leaves as it was.
-use lookup::Looked;
 use merging::Cutting;
 use scan::Found;
+use seat::Seat;
 use terms::Entry;
 use terms::Key;
 use terms::Pos;
@@ -14,7 +14,7 @@ ghost use Rattle.table.specs.Store.{storeOf};
 ghost use Rattle.table.specs.Entries.{Row, usedOf};
 ghost use Rattle.insert.specs.Insert.{insertOf, placedFor, mergeFor};
 ghost use Rattle.insert.specs.Cells.{putSlots, mergedKeys, mergedTable, mergedSlots, keysBy, tableBy, buffersBy};
-ghost use Rattle.insert.specs.Decide.{passesOf, laterOf, roomedOf, soundFor, chosenFor, Counts, Keyed, Picked, Asked, Fitting, Crowded};
+ghost use Rattle.insert.specs.Decide.{passesOf, laterOf, roomedOf, soundFor, chosenFor, Counts, Keyed, Asked, Seated, Free, Fitting, Crowded};
 ghost use Rattle.insert.specs.Write.{Holding, joinedKeys, Joinable, slotsUp, SlotsLater, rowsUp, RowsLater, Later, recutTable, Recuttable, Mergeable};
 
 pub enum Inserted {
@@ -156,7 +156,7 @@ fn crowded(
     Inserted::Refused(Refusal::StoreWrong(i))
 }
 
-// The key is to be put in: into a free slot, or a merge is due.
+// The key is to be put in: into a free slot, at its rising place p, or a merge is due.
 fn placed(
     e: usize,
     b: usize,
@@ -167,17 +167,18 @@ fn placed(
     buffers: &[u64],
     x: Entry,
     i: usize,
+    p: usize,
     k: u64,
 ) -> Inserted
-    requires { ⌜ Picked (storeOf e b n s (now keys) (now table) (now buffers)) x i ⌝ }
+    requires { ⌜ Seated (storeOf e b n s (now keys) (now table) (now buffers)) x i p k ⌝ }
     ensures { λ r. ⌜ r ≡ placedFor (storeOf e b n s (now (keys .entry)) (now (table .entry)) (now (buffers .entry))) i k ⌝ }
 {
     let held = x.held;
     if held + 1 < b {
-        let at = i * b;
-        let to = at + held;
-        let slot = moves::place(&buffers[at..to], k);
-        return Inserted::Buffered { segment: i, slot };
+        return Inserted::Buffered {
+            segment: i,
+            slot: p,
+        };
     }
     let room = table::key_room(keys);
     if n + b <= room {
@@ -186,7 +187,32 @@ fn placed(
     crowded(e, b, n, s, keys, table, buffers, x, i, k)
 }
 
-// The chosen entry is not damaged: its used slots are judged, and k is looked for.
+// k is in none of the used slots, and its rising place among them is p: is it in the run?
+fn unless_in_run(
+    e: usize,
+    b: usize,
+    n: usize,
+    s: usize,
+    keys: &[u64],
+    table: &[u64],
+    buffers: &[u64],
+    x: Entry,
+    i: usize,
+    p: usize,
+    k: u64,
+) -> Inserted
+    requires { ⌜ Free (storeOf e b n s (now keys) (now table) (now buffers)) x i p k ⌝ }
+    ensures { λ r. ⌜ r ≡ soundFor (storeOf e b n s (now (keys .entry)) (now (table .entry)) (now (buffers .entry))) i k ⌝ }
+{
+    let w = line::window(x, Key(k), e);
+    let place = scan::find(keys, w.from.0, w.to.0, k);
+    match place {
+        Found::At(_) => Inserted::Refused(Refusal::Present),
+        Found::Nothing => placed(e, b, n, s, keys, table, buffers, x, i, p, k),
+    }
+}
+
+// The chosen entry is not damaged: its used slots are judged, and k is looked for, first among them and then in the run.
 fn in_sound(
     e: usize,
     b: usize,
@@ -204,24 +230,12 @@ fn in_sound(
 {
     let at = i * b;
     let to = at + x.held;
-    if merging::rising(&buffers[at..to]) {
-        let looked = lookup::in_segment(e, b, keys, buffers, x, i, Key(k));
-        match looked {
-            Looked::InRun(_) => {
-                return Inserted::Refused(Refusal::Present);
-            }
-            Looked::InBuffer { segment, slot } => {
-                return Inserted::Refused(Refusal::Present);
-            }
-            Looked::Absent => {
-                return placed(e, b, n, s, keys, table, buffers, x, i, k);
-            }
-            Looked::Refused(r) => {
-                return Inserted::Refused(r);
-            }
-        }
+    let seat = seat::seat_of(&buffers[at..to], k);
+    match seat {
+        Seat::Unruly => Inserted::Refused(Refusal::StoreWrong(i)),
+        Seat::Taken => Inserted::Refused(Refusal::Present),
+        Seat::Free(p) => unless_in_run(e, b, n, s, keys, table, buffers, x, i, p, k),
     }
-    Inserted::Refused(Refusal::StoreWrong(i))
 }
 
 // The numbers are within their limits, and k is a key: its segment is chosen.

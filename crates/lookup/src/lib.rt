@@ -37,7 +37,7 @@ fn in_buffer(b: usize, buffers: &[u64], i: usize, held: usize, k: Key) -> Looked
 }
 
 // The lowest window position of segment i that holds k, else its buffer. Nothing else of the slices is read.
-pub fn in_segment(
+fn in_segment(
     e: usize,
     b: usize,
     keys: &[u64],

@@ -3,14 +3,12 @@
 use mathlib.Core.Path.{_≡_, refl, sym, ap, _∙_}
 use mathlib.Core.Bool.{Bool, true, false}
 use mathlib.Core.List.{List, [], _∷_}
-use Prim.Native.Nat.{ℕ, suc, _+_, _≤_, _<_}
-use native.Mathlib.Numerals.{add-one}
+use Prim.Native.Nat.{ℕ, suc, _+_, _-_, _*_, _≤_, _<_}
 use native.Mathlib.Omega.{arith}
 use mir.Syntax.{w64}
 use mir.Val.{Fits}
 use lib.Dec.{leb, ltb}
-use lib.ListN.{length, drop, getD, length-drop, drop-of-length-le}
-use lib.Seq.{drop-cons}
+use lib.ListN.{length, drop, getD, length-drop}
 use borrow.Author.Tests.{leb-true, le-leb, lt-leb, ltb-true, lt-ltb}
 use Rattle.lists.specs.Tests.{both}
 use Rattle.lists.specs.Rising.{upOf}
@@ -18,7 +16,7 @@ use Rattle.lists.specs.Merge.{merge, insertSorted}
 use Rattle.lists.proofs.Tests.{both-true, either}
 use Rattle.lists.proofs.Lists.{drop-head, drop-next}
 use Rattle.lists.proofs.Merging.{length-merge, length-insert}
-use Rattle.terms.specs.Limits.{keyLimit}
+use Rattle.terms.specs.Limits.{keyLimit, nMost}
 use Rattle.order.specs.declared.Cursor.{Cursor}
 use Rattle.order.specs.declared.Next.{Next}
 use Rattle.order.specs.declared.Next.the-variants.{Key, Done}
@@ -39,7 +37,7 @@ use Rattle.merging.specs.declared.Taken.the-variants.{To, Fallen}
 use Rattle.merging.specs.declared.Turn.{Turn}
 use Rattle.merging.specs.declared.Turn.the-variants.{On, Over, Fell}
 use Rattle.merging.specs.Judged.{afterOf, piecesOf, Judgeable, Begun}
-use Rattle.merging.specs.Walked.{Counting, Takable, Took, Takes, Turned, Turns, Through, Gone, Goes, Going}
+use Rattle.merging.specs.Walked.{Counting, Takable, Took, Takes, Turned, Turns, Joinable, Joining, Joins, Along, Gone, reached, Going, Capped}
 
 -- ---- after
 
@@ -53,9 +51,8 @@ after-not before x h = let l : x < suc before = omega arith in simp (lt-leb _ _ 
 
 pub ruleset after-cases = (after-key, after-not)
 
--- ---- a slice
+-- ---- one key more of a rising list
 
--- one key more of a rising list
 up-on : (lo x : ℕ) (xs : List ℕ) {r : Bool} → r ≡ both (leb lo x) (ltb x keyLimit) → r ≡ true → upOf lo keyLimit (x ∷ xs) ≡ upOf (suc x) keyLimit xs
 unfolding upOf
 up-on lo x xs is q = simp (sym is ∙ q)
@@ -67,39 +64,6 @@ up-off lo x xs is q = simp (sym is ∙ q)
 -- nothing is below 0
 first-key : (x : ℕ) {r : Bool} → r ≡ ltb x keyLimit → r ≡ both (leb 0 x) (ltb x keyLimit)
 first-key x is = let l : 0 ≤ x = omega arith in simp (le-leb _ _ l) is
-
-module _ (cells : List ℕ) where
-  pub rising-none : length cells ≡ 0 → true ≡ upOf 0 keyLimit cells
-  unfolding upOf
-  rising-none h = let z : length cells ≤ 0 = omega arith in sym (ap (upOf 0 keyLimit) (drop-of-length-le cells z))
-
-  module _ (some : length cells ≡ 0 → ⊥) {r : Bool} (tested : r ≡ ltb (getD cells 0 0) keyLimit) where
-    opened : cells ≡ getD cells 0 0 ∷ drop 1 cells
-    opened = drop-cons cells 0 0 (omega (arith, some))
-
-    pub rising-start : r ≡ true → upOf 0 keyLimit cells ≡ upOf (suc (getD cells 0 0)) keyLimit (drop 1 cells)
-    rising-start q = ap (upOf 0 keyLimit) opened ∙ up-on 0 (getD cells 0 0) (drop 1 cells) (first-key (getD cells 0 0) tested) q
-
-    pub rising-large : r ≡ false → false ≡ upOf 0 keyLimit cells
-    rising-large q = sym (ap (upOf 0 keyLimit) opened ∙ up-off 0 (getD cells 0 0) (drop 1 cells) (first-key (getD cells 0 0) tested) q)
-
-  -- the walk has come to j: what is left decides
-  module _ (last j : ℕ) (so-far : upOf 0 keyLimit cells ≡ upOf (suc last) keyLimit (drop j cells)) where
-    module _ (more : j < length cells) {r : Bool} (tested : r ≡ afterOf last (getD cells j 0)) where
-      pub rising-on : r ≡ true → upOf 0 keyLimit cells ≡ upOf (suc (getD cells j 0)) keyLimit (drop (j + 1) cells)
-      unfolding afterOf
-      rising-on q =
-          so-far ∙ ap (upOf (suc last) keyLimit) (drop-cons cells j 0 more) ∙ up-on (suc last) (getD cells j 0) (drop (suc j) cells) tested q ∙ rw (add-one j) refl
-
-      pub rising-fallen : r ≡ false → false ≡ upOf 0 keyLimit cells
-      unfolding afterOf
-      rising-fallen q = sym (so-far ∙ ap (upOf (suc last) keyLimit) (drop-cons cells j 0 more) ∙ up-off (suc last) (getD cells j 0) (drop (suc j) cells) tested q)
-
-    pub rising-end : length cells ≤ j → true ≡ upOf 0 keyLimit cells
-    unfolding upOf
-    rising-end h = sym (so-far ∙ ap (upOf (suc last) keyLimit) (drop-of-length-le cells h))
-
-pub ruleset rising-cases = (rising-none, rising-start, rising-large, rising-on, rising-fallen, rising-end)
 
 -- ---- a merged order
 
@@ -279,41 +243,76 @@ pub ruleset taken-cases = (taken-small, taken-fallen, taken-ready, taken-joined,
 
 -- ---- a stretch of the run
 
-module _ (e : ℕ) (run used : List ℕ) (k : ℕ) where
-  pub going-start : (w : Walked) (y : ℕ) → Through e run used k w y → Going e run used k y w w
-  going-start w y asked = record { gone = record { counting = asked .counting; most = omega arith }; bound = asked .bound }
+module _ (e : ℕ) (c : Cone) (last y : ℕ) (run : List ℕ) (i : ℕ) (more : i < length run) (up : getD run i 0 ≤ y) (above : last < getD run i 0) where
+  pub joined-asks : Joinable e c last y run i → Ready e c (record { 0 = getD run i 0 })
+  joined-asks joinable = joinable .ready more up above
 
-  module _ (y : ℕ) (w v : Walked) (going : Going e run used k y w v) where
-    pub going-end : Gone e run used k w v
+  pub joined-tried : (s : Step) → s ≡ stepOf e c (getD run i 0) → Joins e c last y run i s
+  joined-tried (Joined d) is = record { inside = more; up = up; after = above; step = sym is }
+  joined-tried Apart is = tt
+
+pub ruleset joined-cases = (joined-asks, joined-tried)
+
+module _ (e : ℕ) (run used : List ℕ) (k y : ℕ) (w : Walked) where
+  pub going-start : Along e run used k w y → Going e run used k y w (w .at .i) (w .last) (w .cone)
+  going-start asked = record { gone = record { counting = asked .counting; most = omega arith }; bound = asked .bound; small = asked .small }
+
+  module _ (i last : ℕ) (c : Cone) (going : Going e run used k y w i last c) where
+    abbrev v : Walked
+    v = reached w i last c
+
+    abbrev x : ℕ
+    x = getD run i 0
+
+    pub going-end : Gone e run used k w (reached w i last c)
     going-end = going .gone
 
-    module _ (more : v .at .i < length run) (up : getD run (v .at .i) 0 ≤ y) where
-      pub going-asks : Takable e run used k v (getD run (v .at .i) 0) (pastRun (v .at))
-      going-asks = record { counting = going .gone .counting; next = run-comes (v .at) run used k y (going .bound) more up }
+    -- the run's key comes next, and after the key before it: so one key more is counted
+    comes : i < length run → x ≤ y → Takable e run used k v x (pastRun (v .at))
+    comes more up =
+        record { counting = going .gone .counting; next = run-comes (v .at) run used k (boundOf (w .at) used k) refl more (omega (arith, going .bound)) }
 
-      module _ {t : Taken} (takes : Takes e run used k (pastRun (v .at)) t) where
-        pub going-fallen : t ≡ Fallen → Unruly ≡ piecesOf e (merge run (insertSorted k used))
-        going-fallen q = rw q at takes
+    after-last : x ≤ y → last < x → true ≡ afterOf last x
+    after-last up above = let small : x < keyLimit = omega (arith, going .small) in after-key last x above (sym (lt-ltb _ _ small))
 
-        module _ {u : Walked} (q : t ≡ To u) where
-          took : Took e run used k (pastRun (v .at)) u
-          took = rw q at takes
+    pub going-asks : Joinable e c last y run i
+    going-asks = record { ready = λ more up above. taken-ready e run used k v x (pastRun (v .at)) (comes more up) (after-last up above) refl }
 
-          shorter : length (restOf (u .at) run used k) < length (restOf (v .at) run used k)
-          shorter =
-              omega (arith, ap (λ (m : Cursor). length (restOf m run used k)) (took .at-past), ap length (next-key (v .at) run used k (getD run (v .at .i) 0) (pastRun (v .at)) (going-asks .next)))
+    module _ {s : Step} (joins : Joins e c last y run i s) {d : Cone} (q : s ≡ Joined d) where
+      joining : Joining e c last y run i d
+      joining = rw q at joins
 
-          pub going-less : length (restOf (u .at) run used k) < length (restOf (v .at) run used k)
-          going-less = shorter
+      few : i < nMost
+      few = omega (arith, joining .inside, going .gone .counting .asked .few)
 
-          pub going-on : Going e run used k y w u
-          going-on =
-              record {
-                gone = record { counting = took .counting; most = omega (arith, shorter, going .gone .most) };
-                bound = going .bound ∙ sym (ap (λ (m : Cursor). boundOf m used k) (took .at-past));
-              }
+      pub going-place : Fits w64 (i * 8)
+      going-place = record { fits = omega (arith, few) }
 
-pub ruleset through-cases = (going-start, going-end, going-asks, going-fallen, going-less, going-on)
+      pub going-inside : i < length run
+      going-inside = joining .inside
+
+      pub going-next : Fits w64 (i + 1)
+      going-next = record { fits = omega (arith, few) }
+
+      pub going-less : length run - (i + 1) < length run - i
+      going-less = omega (arith, joining .inside)
+
+      pub going-on : Going e run used k y w (i + 1) (getD run i 0) d
+      going-on =
+          let here : Takable e run used k v x (pastRun (v .at)) = comes (joining .inside) (joining .up) in
+          let took : Took e run used k (pastRun (v .at)) (reached w (i + 1) x d) =
+          taken-joined e run used k v x (pastRun (v .at)) here (after-last (joining .up) (joining .after)) refl refl (joining .step) in
+          record {
+            gone =
+                record {
+                  counting = took .counting;
+                  most = omega (arith, going .gone .most, ap length (next-key (v .at) run used k x (pastRun (v .at)) (here .next)));
+                };
+            bound = going .bound;
+            small = going .small;
+          }
+
+pub ruleset along-cases = (going-start, going-end, going-asks, going-place, going-inside, going-next, going-less, going-on)
 
 -- ---- the next key, whichever it is
 
@@ -339,41 +338,34 @@ module _ (e : ℕ) (run used : List ℕ) (k : ℕ) (w : Walked) (counting : Coun
 
 pub ruleset turn-cases = (count-small, turn-over, turn-asks, turn-fell, turn-on)
 
--- ---- from one of the others to the next
+-- ---- a stretch of the run, and the key that ends it
 
 module _ (e : ℕ) (run used : List ℕ) (k : ℕ) (w : Walked) where
-  pub on-through : {y : ℕ} → Counting e run used k w → y ≡ boundOf (w .at) used k → Through e run used k w y
-  on-through counting is = record { counting = counting; bound = is }
+  pub on-along : {z y : ℕ} → Counting e run used k w → z ≡ boundOf (w .at) used k → Capped z y → Along e run used k w y
+  on-along counting is capped = record { counting = counting; bound = omega (arith, is, capped .most); small = capped .small }
 
-  module _ {t : Taken} (goes : Goes e run used k w t) where
-    pub on-gone-fallen : t ≡ Fallen → Unruly ≡ piecesOf e (merge run (insertSorted k used))
-    on-gone-fallen q = rw q at goes
+  module _ {v : Walked} (gone : Gone e run used k w v) where
+    pub on-asks : Counting e run used k v
+    on-asks = gone .counting
 
-    module _ {v : Walked} (q : t ≡ To v) where
-      gone : Gone e run used k w v
-      gone = rw q at goes
+    module _ {u : Turn} (turns : Turns e run used k v u) where
+      pub on-fell : u ≡ Fell → Unruly ≡ piecesOf e (merge run (insertSorted k used))
+      on-fell f = rw f at turns
 
-      pub on-asks : Counting e run used k v
-      on-asks = gone .counting
+      pub on-over : {c : ℕ} → u ≡ Over c → Pieces c ≡ piecesOf e (merge run (insertSorted k used))
+      on-over f = rw f at turns
 
-      module _ {u : Turn} (turns : Turns e run used k v u) where
-        pub on-fell : u ≡ Fell → Unruly ≡ piecesOf e (merge run (insertSorted k used))
-        on-fell f = rw f at turns
+      module _ {then : Walked} (f : u ≡ On then) where
+        turned : Turned e run used k v then
+        turned = rw f at turns
 
-        pub on-over : {c : ℕ} → u ≡ Over c → Pieces c ≡ piecesOf e (merge run (insertSorted k used))
-        on-over f = rw f at turns
+        pub on-counting : Counting e run used k then
+        on-counting = turned .counting
 
-        module _ {then : Walked} (f : u ≡ On then) where
-          turned : Turned e run used k v then
-          turned = rw f at turns
+        pub on-less : length (restOf (then .at) run used k) < length (restOf (w .at) run used k)
+        on-less = omega (arith, gone .most, turned .less)
 
-          pub on-counting : Counting e run used k then
-          on-counting = turned .counting
-
-          pub on-less : length (restOf (then .at) run used k) < length (restOf (w .at) run used k)
-          on-less = omega (arith, gone .most, turned .less)
-
-pub ruleset count-cases = (count-start, on-through, on-gone-fallen, on-asks, on-fell, on-over, on-counting, on-less)
+pub ruleset count-cases = (count-start, on-along, on-asks, on-fell, on-over, on-counting, on-less)
 
 -- ---- what the answer says
 

@@ -1,13 +1,13 @@
--- Laws of a stretch that goes up, and the cases of the loop that moves it.
+-- Laws of a stretch that goes up, and the cases of the loops that move it.
 -- Assumes nothing.
 use mathlib.Core.Path.{_≡_, refl, sym, ap, _∙_}
-use mathlib.Core.List.{List, _++_}
+use mathlib.Core.List.{List, _++_, append-assoc}
 use Prim.Native.Nat.{ℕ, suc, _+_, _-_, _≤_, _<_}
 use native.Mathlib.Nat.{add-zero, sub-zero, sub-self, suc-add}
 use native.Mathlib.Omega.{arith}
 use lib.ListN.{length, take, drop, getD, set, length-append, length-take, length-drop, length-set, take-append-drop}
-use lib.Seq.{length-take-le, take-at, drop-at, drop-drop}
-use Rattle.lists.proofs.Lists.{set-take-suc, getD-take-append, take-drop-suc}
+use lib.Seq.{paste, length-take-le, take-length, take-take, take-add, take-at, drop-at, drop-drop}
+use Rattle.lists.proofs.Lists.{set-take-suc, getD-take-append, take-drop-suc, drop-take}
 use Rattle.moves.specs.Shift.{shiftUp, Movable, Moving}
 
 -- nothing moved, and moved to where it was
@@ -47,14 +47,66 @@ pub drop-shift :
 unfolding shiftUp
 drop-shift xs from count by at e h = rw (← e) (drop-at (take at xs) _ at (length-take-le at xs h))
 
--- ---- the loop
+shift-is : (xs : List ℕ) (from count by : ℕ) → shiftUp from count by xs ≡ take (from + by) xs ++ (take count (drop from xs) ++ drop (from + by + count) xs)
+unfolding shiftUp
+shift-is xs from count by = refl
+
+-- ---- a block
+
+-- a stretch that is read and written again further up has gone up
+module _ (s : List ℕ) (a by : ℕ) (asked : Movable s a 16 by) {c : List ℕ} (read : c ≡ take 16 (drop a s)) where
+  block-length : length c ≡ 16
+  block-length = ap length read ∙ length-take-le 16 (drop a s) (omega (arith, asked, length-drop a s))
+
+  pub block-moved : {s′ : List ℕ} → s′ ≡ paste s (a + by) c (length c) → s′ ≡ shiftUp a 16 by s
+  unfolding shiftUp
+  block-moved is =
+      is ∙ ap (λ (l : List ℕ). take (a + by) s ++ l ++ drop (a + by + length c) s) (take-length c)
+      ∙ append-assoc (take (a + by) s) c (drop (a + by + length c) s)
+      ∙ ap (λ (n : ℕ). take (a + by) s ++ (c ++ drop (a + by + n) s)) block-length
+      ∙ ap (λ (l : List ℕ). take (a + by) s ++ (l ++ drop (a + by + 16) s)) read
+
+pub ruleset block-cases = (block-moved)
+
+-- the b cells before a moved stretch go up to it: b + n have gone up
+module _ (xs : List ℕ) (b a n by a⁺ n⁺ : ℕ) (ea : a⁺ ≡ a + b) (en : n⁺ ≡ b + n) (h : a + by + n⁺ ≤ length xs) where
+  abbrev moved : List ℕ
+  moved = shiftUp a⁺ n by xs
+
+  front-same : take (a⁺ + by) moved ≡ take (a⁺ + by) xs
+  front-same = take-shift xs a⁺ n by (a⁺ + by) refl (omega arith)
+
+  low : take (a + by) moved ≡ take (a + by) xs
+  low = sym (take-take (a + by) (a⁺ + by) moved (omega arith)) ∙ ap (take (a + by)) front-same ∙ take-take (a + by) (a⁺ + by) xs (omega arith)
+
+  front-part : (l : List ℕ) → take b (drop a l) ≡ take b (drop a (take (a⁺ + by) l))
+  front-part l = sym (take-take b (a⁺ + by - a) (drop a l) (omega arith)) ∙ ap (take b) (sym (drop-take a (a⁺ + by) l))
+
+  block : take b (drop a moved) ≡ take b (drop a xs)
+  block = front-part moved ∙ ap (λ (l : List ℕ). take b (drop a l)) front-same ∙ sym (front-part xs)
+
+  high : drop (a + by + b) moved ≡ take n (drop a⁺ xs) ++ drop (a + by + n⁺) xs
+  high =
+      let e : a + by + b ≡ a⁺ + by = omega arith in
+      let f : a⁺ + by + n ≡ a + by + n⁺ = omega arith in
+      ap (λ (m : ℕ). drop m moved) e ∙ drop-shift xs a⁺ n by (a⁺ + by) refl (omega arith) ∙ ap (λ (m : ℕ). take n (drop a⁺ xs) ++ drop m xs) f
+
+  whole : take n⁺ (drop a xs) ≡ take b (drop a xs) ++ take n (drop a⁺ xs)
+  whole =
+      ap (λ (m : ℕ). take m (drop a xs)) en ∙ take-add b n (drop a xs)
+      ∙ ap (λ (l : List ℕ). take b (drop a xs) ++ take n l) (drop-drop b a xs ∙ ap (λ (m : ℕ). drop m xs) (sym ea))
+
+  shift-block : shiftUp a b by (shiftUp a⁺ n by xs) ≡ shiftUp a n⁺ by xs
+  shift-block = shift-is moved a b by ∙ rw (low, block, high, whole) (ap (λ (l : List ℕ). take (a + by) xs ++ l) (sym (append-assoc (take b (drop a xs)) (take n (drop a⁺ xs)) (drop (a + by + n⁺) xs)))) ∙ sym (shift-is xs a n⁺ by)
+
+-- ---- the loops
 
 module _ (xs : List ℕ) (from count by : ℕ) where
   pub moving-start : Moving xs from count by xs count
   moving-start = record { few = omega arith; same = refl; is = rw sub-self (sym (shift-none xs (from + count) by)) }
 
   module _ (s : List ℕ) (left : ℕ) (w : Moving xs from count by s left) where
-    pub moving-turn : Movable xs from count by → 0 < left → Moving xs from count by (set s (from + (left - 1) + by) (getD s (from + (left - 1)) 0)) (left - 1)
+    moving-turn : Movable xs from count by → 0 < left → Moving xs from count by (set s (from + (left - 1) + by) (getD s (from + (left - 1)) 0)) (left - 1)
     moving-turn m h =
         record {
           few = omega arith;
@@ -62,7 +114,38 @@ module _ (xs : List ℕ) (from count by : ℕ) where
           is = rw (w .is) (shift-turn xs (from + (left - 1)) (count - left) by (from + left) (count - (left - 1)) (omega arith) (omega arith) (omega arith));
         }
 
-    pub moving-end : left ≤ 0 → s ≡ shiftUp from count by xs
+    module _ (m : Movable xs from count by) (whole : 16 ≤ left) where
+      moving-asks : Movable s (from + (left - 16)) 16 by
+      moving-asks = record { fits = omega (arith, m, w .few, w .same) }
+
+      pub moving-on : {s′ : List ℕ} → s′ ≡ shiftUp (from + (left - 16)) 16 by s → Moving xs from count by s′ (left - 16)
+      moving-on {s′} is =
+          record {
+            few = omega (arith, w .few);
+            same = ap length is ∙ length-shift s (from + (left - 16)) 16 by (moving-asks .fits) ∙ w .same;
+            is =
+                is ∙ ap (shiftUp (from + (left - 16)) 16 by) (w .is)
+                ∙ shift-block xs 16 (from + (left - 16)) (count - left) by (from + left) (count - (left - 16)) (omega arith) (omega (arith, w .few)) (omega (arith, m, w .few));
+          }
+
+    moving-end : left ≤ 0 → s ≡ shiftUp from count by xs
     moving-end h = let z : left ≡ 0 = omega arith in w .is ∙ simp (z, add-zero, sub-zero)
 
-pub ruleset shift-cases = (shift-still, moving-start, moving-turn, moving-end)
+-- ---- the blocks have gone up, and then what is left
+
+module _ (xs : List ℕ) (from count by : ℕ) (m : Movable xs from count by) (s : List ℕ) (left : ℕ) (w : Moving xs from count by s left) where
+  rest-asks : Movable s from left by
+  rest-asks = record { fits = omega (arith, m, w .few, w .same) }
+
+  module _ (s′ : List ℕ) (left′ : ℕ) (v : Moving s from left by s′ left′) where
+    pub rest-turn : 0 < left′ → Moving s from left by (set s′ (from + (left′ - 1) + by) (getD s′ (from + (left′ - 1)) 0)) (left′ - 1)
+    rest-turn h = moving-turn s from left by s′ left′ v rest-asks h
+
+    pub rest-end : left′ ≤ 0 → s′ ≡ shiftUp from count by xs
+    rest-end h =
+        moving-end s from left by s′ left′ v h ∙ ap (shiftUp from left by) (w .is)
+        ∙ shift-block xs left from (count - left) by (from + left) count refl (omega (arith, w .few)) (omega (arith, m))
+
+pub ruleset blocks-cases = (moving-start, moving-on)
+
+pub ruleset shift-cases = (shift-still, moving-start, rest-turn, rest-end)

@@ -2,3 +2,4 @@ pub mod Limits
 pub mod Damages
 pub mod Laws
 pub mod Chosen
+pub mod Descent

@@ -4,3 +4,4 @@ pub mod Entries
 pub mod Damaged
 pub mod Chosen
 pub mod Reads
+pub mod Descent

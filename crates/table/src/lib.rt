@@ -10,6 +10,7 @@ ghost use Rattle.table.specs.Limits.{sizedOf, countedOf, limitedOf, keyR
 ghost use Rattle.table.specs.Entries.{Rows, Row, entryOf, endOf};
 ghost use Rattle.table.specs.Damaged.{damagedOf};
 ghost use Rattle.table.specs.Chosen.{chosenOf};
+ghost use Rattle.table.specs.Descent.{fourOf, Descended};
 
 // Whether e, B and n are within their limits.
 pub fn sized(e: usize, b: usize, n: usize) -> bool
@@ -162,14 +163,48 @@ pub fn damaged(x: Entry, b: usize, n: usize) -> bool
     false
 }
 
-// The greatest i whose first key is at most k, 0 if there is none. On any table, sorted or not, so it walks down.
+// Whether four entries below i are there, the lowest entry apart, and their first keys are all above k.
+fn four_above(table: &[u64], i: usize, key: u64) -> bool
+    requires { ⌜ Rows (now table) i ⌝ }
+    ensures { λ (r : Bool). ⌜ r ≡ fourOf (now (table .entry)) i key ⌝ }
+{
+    if i <= 4 {
+        return false;
+    }
+    let at = 5 * (i - 4);
+    if table[at + 15] <= key {
+        return false;
+    }
+    if table[at + 10] <= key {
+        return false;
+    }
+    if table[at + 5] <= key {
+        return false;
+    }
+    key < table[at]
+}
+
+// The walk down from s, four entries at a time: one test of the end serves for four.
+fn descend(table: &[u64], s: usize, key: u64) -> usize
+    requires { ⌜ Rows (now table) s ⌝ }
+    ensures { λ r. ⌜ Descended (now (table .entry)) s key r ⌝ }
+{
+    let mut i = s;
+    while four_above(table, i, key) {
+        i -= 4;
+    }
+    i
+}
+
+// The greatest i whose first key is at most k, 0 if there is none. On any table, sorted or not, so it walks down. The lowest entry is
+// not read: it is the answer in either case.
 pub fn choose(table: &[u64], s: usize, k: Key) -> usize
     requires { ⌜ Rows (now table) s ⌝ }
     ensures { λ r. ⌜ r ≡ chosenOf (now (table .entry)) s (k .0) ⌝ }
 {
     let key = k.0;
-    let mut i = s;
-    while 0 < i {
+    let mut i = descend(table, s, key);
+    while 1 < i {
         i -= 1;
         if table[5 * i] <= key {
             return i;

@@ -8,13 +8,6 @@ placed-spec =
     tie.close
     (tie.spec
     (λ c. search (placed-cases, needs))  -- add-if1
-    (λ c. search (placed-cases, needs))  -- mul-at
-    (λ c. search (placed-cases, needs))  -- add-to
-    (λ c. search (placed-cases, needs))  -- mul-place
-    (λ c. search (placed-cases, needs))  -- sub-place
-    (λ c. search (placed-cases, needs))  -- part-place-start
-    (λ c. search (placed-cases, needs))  -- part-place-end
-    (λ c κs. search (placed-cases, needs))  -- place-requires
     (λ c. search (placed-cases, needs))  -- returns
     (λ c κs. search (placed-cases, needs))  -- key-room-requires
     (λ c. search (placed-cases, needs))  -- add-if2

@@ -5,7 +5,7 @@ use Rattle.moves.proofs.shift_up.Statement.{statement}
 use Rattle.moves.proofs.shift_up.Tie as tie
 
 abbrev Inv-loop : tie.InvT-loop
-Inv-loop s₀ from count by left₀ s left = Moving s₀ from count by s left
+Inv-loop s₀ from count by left₀ s left = Moving s₀ from left₀ by s left
 
 abbrev μ-loop : tie.MeasureT-loop
 μ-loop s₀ from count by left₀ s left = left
@@ -17,6 +17,7 @@ shift-up-spec =
     Inv-loop
     μ-loop
     (λ c. search (shift-cases, needs))  -- returns
+    (λ c κs. search (shift-cases, needs))  -- shift-blocks-requires
     (λ c. search (shift-cases, needs))  -- loop-holds
     (λ c. search (shift-cases, needs))  -- sub-left
     (λ c. search (shift-cases, needs))  -- add-a

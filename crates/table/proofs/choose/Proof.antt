@@ -1,13 +1,11 @@
 use borrow.Author.Needs.{needs}
-use Rattle.table.specs.Chosen.{chosenOf}
-use mathlib.Core.Path.{_≡_}
-use Prim.Native.Nat.{_≤_}
-use Rattle.table.proofs.Laws.{walk-cases}
+use Rattle.table.specs.Descent.{Descended}
+use Rattle.table.proofs.Descent.{walk-cases}
 use Rattle.table.proofs.choose.Statement.{statement}
 use Rattle.table.proofs.choose.Tie as tie
 
 abbrev Inv-loop : tie.InvT-loop
-Inv-loop table s key i₀ i = (i ≤ s) × (chosenOf table i key ≡ chosenOf table s key)
+Inv-loop table s key i₀ i = Descended table s key i
 
 abbrev μ-loop : tie.MeasureT-loop
 μ-loop table s key i₀ i = i
@@ -18,6 +16,7 @@ choose-spec =
     (tie.spec
     Inv-loop
     μ-loop
+    (λ c κs. search (walk-cases, needs))  -- descend-requires
     (λ c. search (walk-cases, needs))  -- loop-holds
     (λ c. search (walk-cases, needs))  -- sub-i
     (λ c. search (walk-cases, needs))  -- mul-if1

@@ -1,0 +1,23 @@
+-- A search that goes eight places at a time, so that one test of the end serves for eight.
+use mathlib.Core.Path.{_≡_}
+use mathlib.Core.Bool.{Bool}
+use mathlib.Core.List.{List}
+use Prim.Native.Nat.{ℕ, _-_, _≤_}
+use lib.Dec.{leb}
+use lib.ListN.{length}
+use Rattle.lists.specs.Tests.{both}
+use Rattle.scan.specs.Scan.{lowestOf, noneOf}
+
+-- eight places from i on are there, before `to`, and none of them holds k
+unfoldable pub eightOf : List ℕ → ℕ → ℕ → ℕ → Bool
+eightOf xs i to k = both (leb 8 (to - i)) (noneOf (lowestOf xs i 8 k))
+
+-- what it asks
+pub record Inside (xs : List ℕ) (i to : ℕ) : Type 0 where
+  pub before : i ≤ to
+  pub held : to ≤ length xs
+
+-- what is left from p on decides
+pub record Skipped (xs : List ℕ) (from to k p : ℕ) : Type 0 where
+  pub before : p ≤ to
+  pub so-far : lowestOf xs from (to - from) k ≡ lowestOf xs p (to - p) k
