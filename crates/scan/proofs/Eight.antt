@@ -18,7 +18,7 @@ use Rattle.scan.proofs.Laws.{scan-on, scan-end}
 use Rattle.scan.proofs.Meaning.{scanned}
 
 -- one of them holds it
-module _ (xs : List ℕ) (i to k : ℕ) where
+module _ (xs : List ℕ) (i last k : ℕ) where
   held-at : (j : ℕ) → j < 8 → getD xs (i + j) 0 ≡ k → false ≡ noneOf (lowestOf xs i 8 k)
   held-at j h e = go (lowestOf xs i 8 k) (scanned xs k i 8)
     where
@@ -26,12 +26,12 @@ module _ (xs : List ℕ) (i to k : ℕ) where
       go (At p) w = refl
       go Nothing w = absurd (w (i + j) (omega arith) (omega (arith, h)) e)
 
-  pub eight-one : (j : ℕ) → j < 8 → 8 ≤ to - i → getD xs (i + j) 0 ≡ k → false ≡ eightOf xs i to k
+  pub eight-one : (j : ℕ) → j < 8 → i ≤ last → getD xs (i + j) 0 ≡ k → false ≡ eightOf xs i last k
   unfolding eightOf
   eight-one j h room e = simp (le-leb _ _ room) (held-at j h e)
 
   -- they are not all there
-  pub eight-few : to - i < 8 → false ≡ eightOf xs i to k
+  pub eight-few : last < i → false ≡ eightOf xs i last k
   unfolding eightOf
   eight-few h = simp (lt-leb _ _ h)
 
@@ -39,9 +39,9 @@ module _ (xs : List ℕ) (i to k : ℕ) where
 skip-one : (xs : List ℕ) (i to k j : ℕ) → i + suc j ≤ to → (getD xs (i + j) 0 ≡ k → ⊥) → lowestOf xs i (to - i) k ≡ lowestOf xs (i + j) (to - (i + j)) k → lowestOf xs i (to - i) k ≡ lowestOf xs (i + suc j) (to - (i + suc j)) k
 skip-one xs i to k j room other so-far = let e : i + j + 1 ≡ i + suc j = omega arith in rw e at (scan-on xs i to k (i + j) so-far (omega (arith, room)) other)
 
-pub eight-none : (xs : List ℕ) (i to k : ℕ) → 8 ≤ to - i → (getD xs (i + 0) 0 ≡ k → ⊥) → (getD xs (i + 1) 0 ≡ k → ⊥) → (getD xs (i + 2) 0 ≡ k → ⊥) → (getD xs (i + 3) 0 ≡ k → ⊥) → (getD xs (i + 4) 0 ≡ k → ⊥) → (getD xs (i + 5) 0 ≡ k → ⊥) → (getD xs (i + 6) 0 ≡ k → ⊥) → (getD xs (i + 7) 0 ≡ k → ⊥) → true ≡ eightOf xs i to k
+pub eight-none : (xs : List ℕ) (i last k : ℕ) → i ≤ last → (getD xs (i + 0) 0 ≡ k → ⊥) → (getD xs (i + 1) 0 ≡ k → ⊥) → (getD xs (i + 2) 0 ≡ k → ⊥) → (getD xs (i + 3) 0 ≡ k → ⊥) → (getD xs (i + 4) 0 ≡ k → ⊥) → (getD xs (i + 5) 0 ≡ k → ⊥) → (getD xs (i + 6) 0 ≡ k → ⊥) → (getD xs (i + 7) 0 ≡ k → ⊥) → true ≡ eightOf xs i last k
 unfolding eightOf
-eight-none xs i to k room h0 h1 h2 h3 h4 h5 h6 h7 =
+eight-none xs i last k room h0 h1 h2 h3 h4 h5 h6 h7 =
     let z : i + 0 ≡ i = omega arith in
     let s0 : lowestOf xs i (i + 8 - i) k ≡ lowestOf xs (i + 0) (i + 8 - (i + 0)) k = rw z in
     let s1 : lowestOf xs i (i + 8 - i) k ≡ lowestOf xs (i + 1) (i + 8 - (i + 1)) k = skip-one xs i (i + 8) k 0 (omega arith) h0 s0 in
@@ -57,15 +57,16 @@ eight-none xs i to k room h0 h1 h2 h3 h4 h5 h6 h7 =
     simp (le-leb _ _ room, n)
 
 -- what the reads ask
-pub eight-held : (xs : List ℕ) (i to j : ℕ) → Inside xs i to → 8 ≤ to - i → j < 8 → i + j < length xs
-eight-held xs i to j inside room h = omega (arith, inside .before, inside .held, room, h)
+pub eight-held : (xs : List ℕ) (i last j : ℕ) → last + 8 ≤ length xs → i ≤ last → j < 8 → i + j < length xs
+eight-held xs i last j held room h = omega (arith, held, room, h)
 
 pub ruleset eight-cases = (eight-one, eight-few, eight-none, eight-held)
 
 -- where none of the eight holds it, they are skipped
-all-eight : (xs : List ℕ) (i to k : ℕ) → true ≡ eightOf xs i to k → (8 ≤ to - i) × (noneOf (lowestOf xs i 8 k) ≡ true)
+all-eight : (xs : List ℕ) (i last k : ℕ) → true ≡ eightOf xs i last k → (i ≤ last) × (noneOf (lowestOf xs i 8 k) ≡ true)
 unfolding eightOf
-all-eight xs i to k e = let p : (leb 8 (to - i) ≡ true) × (noneOf (lowestOf xs i 8 k) ≡ true) = both-true _ _ (sym e) in (leb-true _ _ (p .0), p .1)
+all-eight xs i last k e =
+    let p : (leb i last ≡ true) × (noneOf (lowestOf xs i 8 k) ≡ true) = both-true _ _ (sym e) in (leb-true _ _ (p .0), p .1)
 
 first-none : (test : ℕ → Bool) (i c d : ℕ) → noneOf (firstOf test i c) ≡ true → firstOf test i (c + d) ≡ firstOf test (i + c) d
 unfolding firstOf
@@ -83,22 +84,21 @@ first-none test i (suc c) d e =
 pub skip-start : (xs : List ℕ) (from to k : ℕ) → Inside xs from to → Skipped xs from to k from
 skip-start xs from to k inside = record { before = inside .before; so-far = refl }
 
-module _ (xs : List ℕ) (i to k : ℕ) {r : Bool} (answer : r ≡ eightOf xs i to k) (yes : r ≡ true) where
+pub skip-asks : (xs : List ℕ) (from to : ℕ) → Inside xs from to → 8 ≤ to - from → to - 8 + 8 ≤ length xs
+skip-asks xs from to inside room = omega (arith, inside .held, inside .before, room)
+
+module _ (xs : List ℕ) (from to i k : ℕ) (room : 8 ≤ to - from) {r : Bool} (answer : r ≡ eightOf xs i (to - 8) k) (yes : r ≡ true) where
+  eight-there : (i ≤ to - 8) × (noneOf (lowestOf xs i 8 k) ≡ true)
+  eight-there = all-eight xs i (to - 8) k (sym yes ∙ answer)
+
   pub skip-less : to - (i + 8) < to - i
-  skip-less = omega (arith, all-eight xs i to k (sym yes ∙ answer) .0)
+  skip-less = omega (arith, room, eight-there .0)
 
-  pub skip-few : to ≤ length xs → i + 8 ≤ length xs
-  skip-few h = omega (arith, h, all-eight xs i to k (sym yes ∙ answer) .0)
-
-  pub skip-on : (from : ℕ) → Skipped xs from to k i → Skipped xs from to k (i + 8)
+  pub skip-on : Skipped xs from to k i → Skipped xs from to k (i + 8)
   unfolding lowestOf
-  skip-on from done =
-      let p : (8 ≤ to - i) × (noneOf (lowestOf xs i 8 k) ≡ true) = all-eight xs i to k (sym yes ∙ answer) in
-      let d : to - i ≡ 8 + (to - (i + 8)) = omega (arith, p .0) in
-      let s : lowestOf xs i (to - i) k ≡ lowestOf xs (i + 8) (to - (i + 8)) k = rw d (first-none _ i 8 (to - (i + 8)) (p .1)) in
-      record { before = omega (arith, p .0); so-far = done .so-far ∙ s }
+  skip-on done =
+      let d : to - i ≡ 8 + (to - (i + 8)) = omega (arith, room, eight-there .0) in
+      let s : lowestOf xs i (to - i) k ≡ lowestOf xs (i + 8) (to - (i + 8)) k = rw d (first-none _ i 8 (to - (i + 8)) (eight-there .1)) in
+      record { before = omega (arith, room, eight-there .0); so-far = done .so-far ∙ s }
 
-pub skip-inside : (xs : List ℕ) (from to k i : ℕ) → Inside xs from to → Skipped xs from to k i → Inside xs i to
-skip-inside xs from to k i inside done = record { before = done .before; held = inside .held }
-
-pub ruleset skip-cases = (skip-start, skip-less, skip-few, skip-on, skip-inside)
+pub ruleset skip-cases = (skip-start, skip-asks, skip-less, skip-on)

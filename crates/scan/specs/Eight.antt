@@ -8,11 +8,11 @@ use lib.ListN.{length}
 use Rattle.lists.specs.Tests.{both}
 use Rattle.scan.specs.Scan.{lowestOf, noneOf}
 
--- eight places from i on are there, before `to`, and none of them holds k
+-- i is not past the last place from which there are eight, and none of the eight from i on holds k
 unfoldable pub eightOf : List ℕ → ℕ → ℕ → ℕ → Bool
-eightOf xs i to k = both (leb 8 (to - i)) (noneOf (lowestOf xs i 8 k))
+eightOf xs i last k = both (leb i last) (noneOf (lowestOf xs i 8 k))
 
--- what it asks
+-- the stretch from i up to, and without, `to` stands in the list
 pub record Inside (xs : List ℕ) (i to : ℕ) : Type 0 where
   pub before : i ≤ to
   pub held : to ≤ length xs

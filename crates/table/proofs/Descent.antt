@@ -45,7 +45,11 @@ module _ (t : List ℕ) (s k i : ℕ) (done : Descended t s k i) where
 pub walk-start : (t : List ℕ) (s k : ℕ) → Descended t s k s
 walk-start t s k = record { inside = omega arith; so-far = refl }
 
-pub ruleset walk-cases = (walk-here, walk-on, walk-end, walk-inside, walk-start)
+-- one entry, or none
+pub walk-one : (t : List ℕ) (s k : ℕ) → s < 2 → 0 ≡ chosenOf t s k
+walk-one t s k h = walk-end t s k s (walk-start t s k) (omega (arith, h))
+
+pub ruleset walk-cases = (walk-one, walk-here, walk-on, walk-end, walk-inside, walk-start)
 
 -- four entries
 module _ (t : List ℕ) (i k : ℕ) where

@@ -135,14 +135,14 @@ pub fn entry_at(table: &[u64], n: usize, s: usize, i: usize) -> Entry
     }
 }
 
-// Whether an entry is damaged.
+// Whether an entry is damaged. Any test may come first.
 pub fn damaged(x: Entry, b: usize, n: usize) -> bool
     ensures { λ r. ⌜ r ≡ damagedOf b n x ⌝ }
 {
-    if terms::KEY_LIMIT <= x.first.0 {
+    if n < x.end.0 {
         return true;
     }
-    if x.run == 0 {
+    if b <= x.held {
         return true;
     }
     if terms::KEY_LIMIT <= x.run {
@@ -154,10 +154,10 @@ pub fn damaged(x: Entry, b: usize, n: usize) -> bool
     if x.end.0 <= x.base.0 {
         return true;
     }
-    if n < x.end.0 {
+    if x.run == 0 {
         return true;
     }
-    if b <= x.held {
+    if terms::KEY_LIMIT <= x.first.0 {
         return true;
     }
     false
@@ -202,6 +202,9 @@ pub fn choose(table: &[u64], s: usize, k: Key) -> usize
     requires { ⌜ Rows (now table) s ⌝ }
     ensures { λ r. ⌜ r ≡ chosenOf (now (table .entry)) s (k .0) ⌝ }
 {
+    if s < 2 {
+        return 0;
+    }
     let key = k.0;
     let mut i = descend(table, s, key);
     while 1 < i {

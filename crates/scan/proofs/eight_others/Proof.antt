@@ -7,7 +7,6 @@ pub eight-others-spec : {M : Type 1} → statement M
 eight-others-spec =
     tie.close
     (tie.spec
-    (λ c. search (eight-cases, needs))  -- sub-if1
     (λ c. search (eight-cases, needs))  -- returns
     (λ c. search (eight-cases, needs))  -- add-if2
     (λ c. search (eight-cases, needs))  -- mul-if2

@@ -6,10 +6,10 @@ use Rattle.scan.proofs.skip.Statement.{statement}
 use Rattle.scan.proofs.skip.Tie as tie
 
 abbrev Inv-loop : tie.InvT-loop
-Inv-loop cells from to k i₀ i = Skipped cells from to k i
+Inv-loop cells from to k last i₀ i = Skipped cells from to k i
 
 abbrev μ-loop : tie.MeasureT-loop
-μ-loop cells from to k i₀ i = to - i
+μ-loop cells from to k last i₀ i = to - i
 
 pub skip-spec : {M : Type 1} → statement M
 skip-spec =
@@ -17,6 +17,9 @@ skip-spec =
     (tie.spec
     Inv-loop
     μ-loop
+    (λ c. search (skip-cases, needs))  -- sub-if1
+    (λ c. search (skip-cases, needs))  -- returns
+    (λ c. search (skip-cases, needs))  -- sub-last
     (λ c. search (skip-cases, needs))  -- loop-holds
     (λ c κs. search (skip-cases, needs))  -- eight-others-requires
     (λ c. search (skip-cases, needs))  -- add-i

@@ -16,13 +16,14 @@ choose-spec =
     (tie.spec
     Inv-loop
     μ-loop
+    (λ c. search (walk-cases, needs))  -- returns
     (λ c κs. search (walk-cases, needs))  -- descend-requires
     (λ c. search (walk-cases, needs))  -- loop-holds
     (λ c. search (walk-cases, needs))  -- sub-i
-    (λ c. search (walk-cases, needs))  -- mul-if1
-    (λ c. search (walk-cases, needs))  -- mul-if1-2
-    (λ c. search (walk-cases, needs))  -- shared-slice-read-if1
-    (λ c. search (walk-cases, needs))  -- returns
+    (λ c. search (walk-cases, needs))  -- mul-if2
+    (λ c. search (walk-cases, needs))  -- mul-if2-2
+    (λ c. search (walk-cases, needs))  -- shared-slice-read-if2
+    (λ c. search (walk-cases, needs))  -- returns-2
     (λ c. search (walk-cases, needs))  -- loop-less
     (λ c. search (walk-cases, needs))  -- loop-again
     (λ c. search (walk-cases, needs)))
