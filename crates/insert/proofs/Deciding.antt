@@ -12,12 +12,11 @@ use lib.ListN.{length, getD, take, drop, length-take, length-drop}
 use borrow.Author.Tests.{le-leb, lt-leb, lt-ltb, le-ltb, ltb-true}
 use Rattle.lists.specs.Tests.{pick}
 use Rattle.lists.specs.Rising.{upOf}
-use Rattle.lists.specs.Merge.{merge, insertSorted, placeOf}
+use Rattle.lists.specs.Merge.{merge, insertSorted}
 use Rattle.lists.proofs.Rising.{up-true}
 use Rattle.lists.proofs.Merging.{length-merge, length-insert}
 use Rattle.terms.specs.Limits.{keyLimit, keyOf, nMost}
 use Rattle.terms.specs.declared.Entry.{Entry}
-use Rattle.terms.specs.declared.Refusal.{Refusal}
 use Rattle.terms.specs.declared.Refusal.the-variants.{Limits as OutOfLimits, LargeKey, Present, KeyRoom, SegmentRoom, StoreWrong}
 use Rattle.table.specs.Store.{Store, storeOf}
 use Rattle.table.specs.Limits.{Limits, limitedOf, keyRoom, segmentRoom}

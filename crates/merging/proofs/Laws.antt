@@ -13,6 +13,7 @@ use borrow.Author.Tests.{leb-true, le-leb, lt-leb, ltb-true, lt-ltb}
 use Rattle.lists.specs.Tests.{both}
 use Rattle.lists.specs.Rising.{upOf}
 use Rattle.lists.specs.Merge.{merge, insertSorted}
+use Rattle.lists.proofs.Heads.{up-on, up-off}
 use Rattle.lists.proofs.Tests.{both-true, either}
 use Rattle.lists.proofs.Lists.{drop-head, drop-next}
 use Rattle.lists.proofs.Merging.{length-merge, length-insert}
@@ -51,16 +52,6 @@ after-not before x h = let l : x < suc before = omega arith in simp (lt-leb _ _ 
 
 pub ruleset after-cases = (after-key, after-not)
 
--- ---- one key more of a rising list
-
-up-on : (lo x : ℕ) (xs : List ℕ) {r : Bool} → r ≡ both (leb lo x) (ltb x keyLimit) → r ≡ true → upOf lo keyLimit (x ∷ xs) ≡ upOf (suc x) keyLimit xs
-unfolding upOf
-up-on lo x xs is q = simp (sym is ∙ q)
-
-up-off : (lo x : ℕ) (xs : List ℕ) {r : Bool} → r ≡ both (leb lo x) (ltb x keyLimit) → r ≡ false → upOf lo keyLimit (x ∷ xs) ≡ false
-unfolding upOf
-up-off lo x xs is q = simp (sym is ∙ q)
-
 -- nothing is below 0
 first-key : (x : ℕ) {r : Bool} → r ≡ ltb x keyLimit → r ≡ both (leb 0 x) (ltb x keyLimit)
 first-key x is = let l : 0 ≤ x = omega arith in simp (le-leb _ _ l) is
@@ -82,11 +73,11 @@ module _ (run used : List ℕ) (k : ℕ) (m : Cursor) {n : Next} (is : n ≡ nex
     module _ {x : ℕ} {past : Cursor} (key : n ≡ Key x past) {r : Bool} (tested : r ≡ afterOf last x) where
       pub on-turn : r ≡ true → upOf (suc from) keyLimit (restOf start run used k) ≡ upOf (suc x) keyLimit (restOf past run used k)
       unfolding afterOf
-      on-turn q = so-far ∙ ap (upOf (suc last) keyLimit) (head-is key) ∙ up-on (suc last) x (restOf past run used k) tested q
+      on-turn q = so-far ∙ ap (upOf (suc last) keyLimit) (head-is key) ∙ up-on (suc last) keyLimit x (restOf past run used k) tested q
 
       pub on-fallen : r ≡ false → false ≡ upOf (suc from) keyLimit (restOf start run used k)
       unfolding afterOf
-      on-fallen q = sym (so-far ∙ ap (upOf (suc last) keyLimit) (head-is key) ∙ up-off (suc last) x (restOf past run used k) tested q)
+      on-fallen q = sym (so-far ∙ ap (upOf (suc last) keyLimit) (head-is key) ∙ up-off (suc last) keyLimit x (restOf past run used k) tested q)
 
 pub ruleset on-cases = (rest-less, on-end, on-turn, on-fallen)
 
@@ -109,10 +100,10 @@ module _ (run used : List ℕ) (k : ℕ) {m : Cursor} (begin : m ≡ keyStart) {
 
   module _ {x : ℕ} {past : Cursor} (key : n ≡ Key x past) {r : Bool} (tested : r ≡ ltb x keyLimit) where
     pub rises-first : {a : Bool} → r ≡ true → a ≡ upOf (suc x) keyLimit (restOf past run used k) → a ≡ upOf 0 keyLimit (merge run (insertSorted k used))
-    rises-first q a = a ∙ sym (ap (upOf 0 keyLimit) (all-is key) ∙ up-on 0 x (restOf past run used k) (first-key x tested) q)
+    rises-first q a = a ∙ sym (ap (upOf 0 keyLimit) (all-is key) ∙ up-on 0 keyLimit x (restOf past run used k) (first-key x tested) q)
 
     pub rises-large : r ≡ false → false ≡ upOf 0 keyLimit (merge run (insertSorted k used))
-    rises-large q = sym (ap (upOf 0 keyLimit) (all-is key) ∙ up-off 0 x (restOf past run used k) (first-key x tested) q)
+    rises-large q = sym (ap (upOf 0 keyLimit) (all-is key) ∙ up-off 0 keyLimit x (restOf past run used k) (first-key x tested) q)
 
     pub pieces-large : (e : ℕ) → r ≡ false → Unruly ≡ piecesOf e (merge run (insertSorted k used))
     unfolding piecesOf
@@ -146,7 +137,7 @@ module _ (e : ℕ) (run used : List ℕ) (k : ℕ) where
         walk = walk-start e keys some (sym (drop-head keys 0 x (restOf m run used k) 0 (begun .first)));
         rest = drop-next keys 0 x (restOf m run used k) (begun .first);
         ordered = omega arith;
-        so-far = ap (upOf 0 keyLimit) (begun .first) ∙ up-on 0 x (restOf m run used k) (first-key x refl) small;
+        so-far = ap (upOf 0 keyLimit) (begun .first) ∙ up-on 0 keyLimit x (restOf m run used k) (first-key x refl) small;
       })
 
   pub count-end : (w : Walked) → Counting e run used k w → {n : Next} → n ≡ nextOf (w .at) run used k → n ≡ Done → Pieces (w .closed + 1) ≡ piecesOf e (merge run (insertSorted k used))
@@ -179,7 +170,7 @@ module _ (e : ℕ) (run used : List ℕ) (k : ℕ) where
       unfolding piecesOf afterOf
       taken-fallen q =
           let up : upOf 0 keyLimit keys ≡ false =
-          here .so-far ∙ ap (upOf (suc (w .last)) keyLimit) rest-is ∙ up-off (suc (w .last)) x (restOf past run used k) tested q in
+          here .so-far ∙ ap (upOf (suc (w .last)) keyLimit) rest-is ∙ up-off (suc (w .last)) keyLimit x (restOf past run used k) tested q in
           simp up
 
       module _ (yes : r ≡ true) where
@@ -202,7 +193,7 @@ module _ (e : ℕ) (run used : List ℕ) (k : ℕ) where
 
         up-next : upOf 0 keyLimit keys ≡ upOf (suc x) keyLimit (restOf past run used k)
         unfolding afterOf
-        up-next = here .so-far ∙ ap (upOf (suc (w .last)) keyLimit) rest-is ∙ up-on (suc (w .last)) x (restOf past run used k) tested yes
+        up-next = here .so-far ∙ ap (upOf (suc (w .last)) keyLimit) rest-is ∙ up-on (suc (w .last)) keyLimit x (restOf past run used k) tested yes
 
         module _ {s : Step} (stepped : s ≡ stepOf e (w .cone) x) where
           pub taken-joined : {d : Cone} → s ≡ Joined d → Took e run used k past (record { at = past; last = x; closed = w .closed; cone = d })
