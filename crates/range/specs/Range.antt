@@ -9,11 +9,11 @@ use Rattle.terms.specs.declared.Refusal.the-variants.{Limits, LargeKey, Backwar
 use Rattle.table.specs.Store.{Store}
 use Rattle.table.specs.Limits.{limitedOf}
 use Rattle.table.specs.Chosen.{chosenOf}
-use Rattle.range.specs.declared.Judged.{Judged}
-use Rattle.range.specs.declared.Judged.the-variants.{WrongAt, Counts}
+use Rattle.listing.specs.declared.Judged.{Judged}
+use Rattle.listing.specs.declared.Judged.the-variants.{WrongAt, Counts}
+use Rattle.listing.specs.Stretch.{keysIn, judgedOf}
 use Rattle.range.specs.declared.Ranged.{Ranged}
 use Rattle.range.specs.declared.Ranged.the-variants.{Listed, Refused}
-use Rattle.range.specs.Stretch.{keysIn, judgedOf}
 
 -- 9, then 8: "result longer than the out slice", which holds `room` keys
 abbrev pub listedBy : ℕ → Judged → Ranged

@@ -16,8 +16,8 @@ use Rattle.table.specs.Reads.{mergedIn, stretchOf}
 use Rattle.table.proofs.Damages.{false-damaged}
 use Rattle.judge.specs.declared.Bound.{Bound}
 use Rattle.judge.specs.declared.Bound.the-variants.{Free, By}
-use Rattle.range.specs.Stretch.{floorOf, lastOf, beforeIn, fineOf}
-use Rattle.range.proofs.Stretches.{stretch-next, fine-sound, fine-up}
+use Rattle.listing.specs.Stretch.{floorOf, lastOf, beforeIn, fineOf}
+use Rattle.listing.proofs.Stretches.{stretch-next, fine-sound, fine-up}
 use Rattle.range_laws.specs.Answers.{Fine}
 
 -- each key of ms is above its neighbour before it in the joined list

@@ -1,10 +1,10 @@
 use borrow.Author.Needs.{needs}
-use Rattle.range.specs.Asks.{Judging}
+use Rattle.listing.specs.Asks.{Judging}
 use Rattle.table.specs.Store.{storeOf}
 use Prim.Native.Nat.{_-_}
-use Rattle.range.proofs.Laws.{judge-cases}
-use Rattle.range.proofs.judge_stretch.Statement.{statement}
-use Rattle.range.proofs.judge_stretch.Tie as tie
+use Rattle.listing.proofs.Laws.{judge-cases}
+use Rattle.listing.proofs.judge_stretch.Statement.{statement}
+use Rattle.listing.proofs.judge_stretch.Tie as tie
 
 abbrev Inv-loop : tie.InvT-loop
 Inv-loop e b n s keys table buffers low high a to i₀ before₀ seen₀ i before seen = Judging (storeOf e b n s keys table buffers) (low .0) (high .0) a to i before seen

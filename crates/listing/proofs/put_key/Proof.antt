@@ -1,7 +1,7 @@
 use borrow.Author.Needs.{needs}
-use Rattle.range.proofs.Laws.{put-key-cases}
-use Rattle.range.proofs.put_key.Statement.{statement}
-use Rattle.range.proofs.put_key.Tie as tie
+use Rattle.listing.proofs.Laws.{put-key-cases}
+use Rattle.listing.proofs.put_key.Statement.{statement}
+use Rattle.listing.proofs.put_key.Tie as tie
 
 pub put-key-spec : {M : Type 1} → statement M
 put-key-spec =

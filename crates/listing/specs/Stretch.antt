@@ -17,10 +17,10 @@ use Rattle.scan.specs.declared.Found.the-variants.{At, Nothing}
 use Rattle.scan.specs.Scan.{failsOf}
 use Rattle.judge.specs.declared.Bound.{Bound}
 use Rattle.judge.specs.declared.Bound.the-variants.{Free, By}
-use Rattle.range.specs.declared.Walked.{Walked}
-use Rattle.range.specs.declared.Walked.the-variants.{Rose, Fell}
-use Rattle.range.specs.declared.Judged.{Judged}
-use Rattle.range.specs.declared.Judged.the-variants.{WrongAt, Counts}
+use Rattle.listing.specs.declared.Walked.{Walked}
+use Rattle.listing.specs.declared.Walked.the-variants.{Rose, Fell}
+use Rattle.listing.specs.declared.Judged.{Judged}
+use Rattle.listing.specs.declared.Judged.the-variants.{WrongAt, Counts}
 
 -- ---- the key before
 

@@ -1,7 +1,7 @@
 use borrow.Author.Needs.{needs}
-use Rattle.range.proofs.Laws.{parts-cases}
-use Rattle.range.proofs.walk_parts.Statement.{statement}
-use Rattle.range.proofs.walk_parts.Tie as tie
+use Rattle.listing.proofs.Laws.{parts-cases}
+use Rattle.listing.proofs.walk_parts.Statement.{statement}
+use Rattle.listing.proofs.walk_parts.Tie as tie
 
 pub walk-parts-spec : {M : Type 1} → statement M
 walk-parts-spec =

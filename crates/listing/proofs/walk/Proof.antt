@@ -1,10 +1,10 @@
 use borrow.Author.Needs.{needs}
-use Rattle.range.specs.Asks.{Walking}
+use Rattle.listing.specs.Asks.{Walking}
 use Rattle.order.specs.Order.{restOf}
 use lib.ListN.{length}
-use Rattle.range.proofs.Laws.{walk-cases}
-use Rattle.range.proofs.walk.Statement.{statement}
-use Rattle.range.proofs.walk.Tie as tie
+use Rattle.listing.proofs.Laws.{walk-cases}
+use Rattle.listing.proofs.walk.Statement.{statement}
+use Rattle.listing.proofs.walk.Tie as tie
 
 abbrev Inv-loop : tie.InvT-loop
 Inv-loop low high seen run used m₀ last₀ count₀ m last count = Walking (low .0) (high .0) last₀ seen run used last count m

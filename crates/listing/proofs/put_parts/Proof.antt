@@ -1,7 +1,7 @@
 use borrow.Author.Needs.{needs}
-use Rattle.range.proofs.Laws.{put-parts-cases}
-use Rattle.range.proofs.put_parts.Statement.{statement}
-use Rattle.range.proofs.put_parts.Tie as tie
+use Rattle.listing.proofs.Laws.{put-parts-cases}
+use Rattle.listing.proofs.put_parts.Statement.{statement}
+use Rattle.listing.proofs.put_parts.Tie as tie
 
 pub put-parts-spec : {M : Type 1} → statement M
 put-parts-spec =

@@ -1,7 +1,7 @@
 use borrow.Author.Needs.{needs}
-use Rattle.range.proofs.Laws.{tally-cases}
-use Rattle.range.proofs.tally.Statement.{statement}
-use Rattle.range.proofs.tally.Tie as tie
+use Rattle.listing.proofs.Laws.{tally-cases}
+use Rattle.listing.proofs.tally.Statement.{statement}
+use Rattle.listing.proofs.tally.Tie as tie
 
 pub tally-spec : {M : Type 1} → statement M
 tally-spec =

@@ -1,10 +1,10 @@
 use borrow.Author.Needs.{needs}
-use Rattle.range.proofs.Laws.{Putting}
+use Rattle.listing.proofs.Laws.{Putting}
 use Rattle.order.specs.Order.{restOf}
 use lib.ListN.{length}
-use Rattle.range.proofs.Laws.{keys-cases}
-use Rattle.range.proofs.put_keys.Statement.{statement}
-use Rattle.range.proofs.put_keys.Tie as tie
+use Rattle.listing.proofs.Laws.{keys-cases}
+use Rattle.listing.proofs.put_keys.Statement.{statement}
+use Rattle.listing.proofs.put_keys.Tie as tie
 
 abbrev Inv-loop : tie.InvT-loop
 Inv-loop low high run used out₀ at m₀ p₀ out m p = Putting (low .0) (high .0) run used out₀ at m out p

@@ -18,7 +18,7 @@ use Rattle.order.specs.declared.Cursor.{Cursor}
 use Rattle.order.specs.Order.{restOf}
 use Rattle.judge.specs.declared.Bound.{Bound}
 use Rattle.judge.specs.Check.{Lent, Segment}
-use Rattle.range.specs.Stretch.{beforeIn, fineOf, keysIn, walkedOf}
+use Rattle.listing.specs.Stretch.{beforeIn, fineOf, keysIn, walkedOf}
 
 -- ---- counting
 

@@ -1,7 +1,7 @@
 use borrow.Author.Needs.{needs}
-use Rattle.range.proofs.Laws.{see-cases}
-use Rattle.range.proofs.see.Statement.{statement}
-use Rattle.range.proofs.see.Tie as tie
+use Rattle.listing.proofs.Laws.{see-cases}
+use Rattle.listing.proofs.see.Statement.{statement}
+use Rattle.listing.proofs.see.Tie as tie
 
 pub see-spec : {M : Type 1} → statement M
 see-spec =

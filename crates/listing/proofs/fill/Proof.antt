@@ -1,10 +1,10 @@
 use borrow.Author.Needs.{needs}
-use Rattle.range.specs.Asks.{Filling}
+use Rattle.listing.specs.Asks.{Filling}
 use Rattle.table.specs.Store.{storeOf}
 use Prim.Native.Nat.{_-_}
-use Rattle.range.proofs.Laws.{fill-cases}
-use Rattle.range.proofs.fill.Statement.{statement}
-use Rattle.range.proofs.fill.Tie as tie
+use Rattle.listing.proofs.Laws.{fill-cases}
+use Rattle.listing.proofs.fill.Statement.{statement}
+use Rattle.listing.proofs.fill.Tie as tie
 
 abbrev Inv-loop : tie.InvT-loop
 Inv-loop e b n s keys table buffers low high a to out₀ i₀ at₀ out i at = Filling (storeOf e b n s keys table buffers) (low .0) (high .0) a to out₀ i out at

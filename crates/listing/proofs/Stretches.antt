@@ -27,9 +27,9 @@ use Rattle.table.proofs.Damages.{damaged-false}
 use Rattle.judge.specs.declared.Bound.{Bound}
 use Rattle.judge.specs.declared.Bound.the-variants.{Free, By}
 use Rattle.judge.specs.Check.{aboveOf}
-use Rattle.range.specs.declared.Walked.the-variants.{Rose, Fell}
-use Rattle.range.specs.Asks.{segmentMost}
-use Rattle.range.specs.Stretch.{floorOf, lastOf, beforeIn, fineOf, keysIn, followsOf, walkedOf, seenOf}
+use Rattle.listing.specs.declared.Walked.the-variants.{Rose, Fell}
+use Rattle.listing.specs.Asks.{segmentMost}
+use Rattle.listing.specs.Stretch.{floorOf, lastOf, beforeIn, fineOf, keysIn, followsOf, walkedOf, seenOf}
 
 -- ---- the key before
 

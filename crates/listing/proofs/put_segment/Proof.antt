@@ -1,7 +1,7 @@
 use borrow.Author.Needs.{needs}
-use Rattle.range.proofs.Laws.{put-segment-cases}
-use Rattle.range.proofs.put_segment.Statement.{statement}
-use Rattle.range.proofs.put_segment.Tie as tie
+use Rattle.listing.proofs.Laws.{put-segment-cases}
+use Rattle.listing.proofs.put_segment.Statement.{statement}
+use Rattle.listing.proofs.put_segment.Tie as tie
 
 pub put-segment-spec : {M : Type 1} → statement M
 put-segment-spec =

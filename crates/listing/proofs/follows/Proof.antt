@@ -1,7 +1,7 @@
 use borrow.Author.Needs.{needs}
-use Rattle.range.proofs.Laws.{follows-cases}
-use Rattle.range.proofs.follows.Statement.{statement}
-use Rattle.range.proofs.follows.Tie as tie
+use Rattle.listing.proofs.Laws.{follows-cases}
+use Rattle.listing.proofs.follows.Statement.{statement}
+use Rattle.listing.proofs.follows.Tie as tie
 
 pub follows-spec : {M : Type 1} → statement M
 follows-spec =

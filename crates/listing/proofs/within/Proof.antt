@@ -1,7 +1,7 @@
 use borrow.Author.Needs.{needs}
-use Rattle.range.proofs.Laws.{within-cases}
-use Rattle.range.proofs.within.Statement.{statement}
-use Rattle.range.proofs.within.Tie as tie
+use Rattle.listing.proofs.Laws.{within-cases}
+use Rattle.listing.proofs.within.Statement.{statement}
+use Rattle.listing.proofs.within.Tie as tie
 
 pub within-spec : {M : Type 1} → statement M
 within-spec =
