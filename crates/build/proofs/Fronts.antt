@@ -12,7 +12,7 @@ use borrow.Author.Tests.{ltb-true, ltb-false, lt-ltb, eqb-true, eqb-false}
 use Rattle.lists.proofs.Tests.{all-each, each-all, either, is-false}
 use Rattle.terms.specs.Limits.{keyLimit}
 use Rattle.scan.specs.Scan.{failsOf}
-use Rattle.build.specs.Build.{goodOf, Good, faultOf, Held}
+use Rattle.build.specs.Build.{goodOf, faultOf, Held}
 use Rattle.build.specs.Fronts.{FourHeld, fours, fourOf, Four, Front, GoodFront}
 use Rattle.build.proofs.Faults.{true-good, fault-start, fault-on}
 

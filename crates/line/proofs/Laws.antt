@@ -1,6 +1,6 @@
 -- The cases of a guess and a window, and that the numbers of a guess are small.
 -- Assumes nothing.
-use mathlib.Core.Path.{_≡_, refl, sym, ap, _∙_}
+use mathlib.Core.Path.{_≡_, sym, ap, _∙_}
 use Prim.Native.Nat.{ℕ, _+_, _-_, _*_, _/_, _^_, _≤_, _<_}
 use native.Mathlib.Nat.{mul-le-mul, div-le-self, lt-of-le-of-lt}
 use native.Mathlib.Omega.{arith}
@@ -17,7 +17,7 @@ use Rattle.products.specs.Products.{Divisible}
 use Rattle.line.specs.declared.Guessed.{Guessed}
 use Rattle.line.specs.declared.Guessed.the-variants.{NoGuess, At}
 use Rattle.line.specs.declared.Span.{Span}
-use Rattle.line.specs.Line.{Lined, guessAt, guessOf, nearOf, aroundOf, windowOf}
+use Rattle.line.specs.Line.{Lined, guessOf, nearOf, aroundOf, windowOf}
 
 -- the product of two numbers below bounds that are written out
 product : (a b m n : ℕ) → a ≤ m → b ≤ n → a * b ≤ m * n

@@ -3,11 +3,11 @@
 use mathlib.Core.Path.{_≡_}
 use mathlib.Core.Bool.{Bool, true, false}
 use mathlib.Core.List.{List}
-use Prim.Native.Nat.{ℕ, suc, _+_, _-_, _*_, _≤_, _<_}
+use Prim.Native.Nat.{ℕ, _+_, _-_, _*_, _≤_, _<_}
 use native.Mathlib.Nat.{mul-le-mul-right}
 use native.Mathlib.Omega.{arith}
 use lib.Dec.{ltb}
-use lib.ListN.{length, take, drop}
+use lib.ListN.{take, drop}
 use borrow.Author.Tests.{ltb-true}
 use Rattle.terms.specs.Limits.{keyLimit, keyOf}
 use Rattle.terms.specs.declared.Refusal.the-variants.{Limits as OutOfLimits, LargeKey, StoreWrong}
@@ -22,7 +22,7 @@ use Rattle.table.proofs.Limits.{limits-of}
 use Rattle.table.proofs.Damages.{sound-of}
 use Rattle.table.proofs.Chosen.{chosen-below}
 use Rattle.line.specs.declared.Span.{Span}
-use Rattle.line.specs.Line.{Lined, windowOf}
+use Rattle.line.specs.Line.{windowOf}
 use Rattle.line.proofs.Laws.{window-reaches}
 use Rattle.scan.specs.declared.Found.{Found}
 use Rattle.scan.specs.declared.Found.the-variants.{At, Nothing}

@@ -1,7 +1,6 @@
 -- Demand 1 for lookup: its answer is the one that 01 describes, refusals exactly when and in the order its table says, and only that one.
 -- Assumes nothing.
-use mathlib.Core.Path.{_≡_, refl, sym, ap, _∙_}
-use mathlib.Core.Bool.{Bool, true, false}
+use mathlib.Core.Path.{_≡_, refl, sym, _∙_}
 use Prim.Native.Nat.{ℕ, _+_, _-_, _*_, _≤_, _<_}
 use native.Mathlib.Omega.{arith}
 use lib.Dec.{ltb}
@@ -10,29 +9,27 @@ use lib.Seq.{getD-take, getD-drop}
 use borrow.Author.Tests.{ltb-true, ltb-false, lt-ltb, le-ltb}
 use Rattle.lists.proofs.Tests.{either, clash}
 use Rattle.terms.specs.Limits.{keyLimit, keyOf}
-use Rattle.terms.specs.declared.Key.{Key}
-use Rattle.terms.specs.declared.Refusal.the-variants.{Limits as OutOfLimits, LargeKey, StoreWrong}
 use Rattle.table.specs.Store.{Store}
 use Rattle.table.specs.Limits.{Limits, limitedOf}
 use Rattle.table.specs.Entries.{entryIn, usedOf}
-use Rattle.table.specs.Damaged.{Sound, damagedOf}
-use Rattle.table.specs.Chosen.{chosenOf, Chosen}
+use Rattle.table.specs.Damaged.{damagedOf}
+use Rattle.table.specs.Chosen.{chosenOf}
 use Rattle.table.proofs.Limits.{limited-true, true-limited}
 use Rattle.table.proofs.Damages.{damaged-false, false-damaged}
 use Rattle.table.proofs.Chosen.{chosen-is, one-choice}
 use Rattle.line.specs.Line.{windowOf}
-use Rattle.line.specs.Meaning.{Near, Within}
+use Rattle.line.specs.Meaning.{Within}
 use Rattle.line.proofs.Meaning.{near-within, within-near}
 use Rattle.scan.specs.declared.Found.{Found}
 use Rattle.scan.specs.declared.Found.the-variants.{At, Nothing}
 use Rattle.scan.specs.Scan.{lowestOf}
-use Rattle.scan.specs.Meaning.{None, Lowest, Holds, Scanned}
+use Rattle.scan.specs.Meaning.{Holds, Scanned}
 use Rattle.scan.proofs.Meaning.{scanned, one-answer, scanned-same}
 use Rattle.lookup.specs.declared.Looked.{Looked}
-use Rattle.lookup.specs.declared.Looked.the-variants.{InRun, InBuffer, Absent, Refused}
+use Rattle.lookup.specs.declared.Looked.the-variants.{InRun}
 use Rattle.lookup.specs.Lookup.{slotOf, placeOr, bufferedOf, lowestIn, searchedOf, segmentOf, lookupOf}
 use Rattle.lookup.proofs.Laws.{limits-refused, key-refused, damage-refused, answered}
-use Rattle.lookup_laws.specs.Answers.{Asked, Taken, Stands, Waits, Running, Waiting, Missing, Answers, in-run, in-buffer, absent, refused-1, refused-2, refused-9}
+use Rattle.lookup_laws.specs.Answers.{Asked, Taken, Stands, Waits, Answers, in-run, in-buffer, absent, refused-1, refused-2, refused-9}
 
 -- ---- segment i, once it is taken
 module _ (σ : Store) (k i : ℕ) where

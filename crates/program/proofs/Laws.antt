@@ -1,12 +1,11 @@
 -- The cases of the program.
 -- Assumes nothing.
-use mathlib.Core.Path.{_≡_, refl, sym, ap, _∙_}
-use mathlib.Core.Bool.{true, false}
+use mathlib.Core.Path.{_≡_, refl, sym, _∙_}
 use mathlib.Core.List.{List}
-use Prim.Native.Nat.{ℕ, _+_, _*_, _/_, _≤_, min}
+use Prim.Native.Nat.{ℕ, _≤_}
 use native.Mathlib.Omega.{arith}
 use lib.Dec.{leb}
-use lib.ListN.{length, replicate, take, length-replicate}
+use lib.ListN.{length, replicate, take}
 use borrow.Author.Tests.{leb-true}
 use Rattle.lists.specs.Over.{over}
 use Rattle.lists.proofs.Tests.{either}
@@ -15,8 +14,6 @@ use Rattle.table.specs.Limits.{segmentRoom}
 use Rattle.scan.specs.declared.Found.{Found}
 use Rattle.scan.specs.declared.Found.the-variants.{At, Nothing}
 use Rattle.cone.specs.Rule.{cut}
-use Rattle.build.specs.declared.Judged.{Judged}
-use Rattle.build.specs.declared.Judged.the-variants.{Clear, Faulty}
 use Rattle.build.specs.declared.Built.{Built}
 use Rattle.build.specs.declared.Built.the-variants.{Made, Refused as NotBuilt}
 use Rattle.build.specs.Build.{takesOf, faultOf, roomedOf, foundOf, judgedOf, answerBy, builtOf, tableBy}
@@ -25,7 +22,7 @@ use Rattle.start_list.specs.declared.Listed.the-variants.{List as Given, Refuse
 use Rattle.start_list.specs.StartList.{listedOf, givenOf}
 use Rattle.report.specs.Report.{Report, reportOf, refusalOf}
 use Rattle.report.proofs.Laws.{report-most, refusal-most}
-use Rattle.program.specs.Output.{putOut, builtOutput, listOutput, outputOf, Area}
+use Rattle.program.specs.Output.{builtOutput, outputOf, Area}
 
 -- what build made has room
 made-room : (e b n : ℕ) (keys table buffers : List ℕ) (s : ℕ) → builtOf e b n keys table buffers ≡ Made s → s ≤ segmentRoom b table buffers

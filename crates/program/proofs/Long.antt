@@ -6,9 +6,8 @@ use mathlib.Core.List.{List}
 use Prim.Native.Nat.{ℕ, _≤_}
 use native.Mathlib.Omega.{arith}
 use lib.ListN.{length, take}
-use Rattle.start_list.specs.StartList.{listedOf, givenOf}
 use Rattle.start_list.proofs.Long.{listed-cut, given-cut}
-use Rattle.program.specs.Output.{listOutput, outputOf}
+use Rattle.program.specs.Output.{outputOf}
 
 pub output-cut : (text : List ℕ) (m : ℕ) → 7725 ≤ m → m ≤ length text → outputOf (take m text) ≡ outputOf text
 unfolding outputOf

@@ -1,10 +1,9 @@
 -- 01, "The program": what `cut` writes for any bytes that it reads.
 use mathlib.Core.Path.{_≡_}
 use mathlib.Core.List.{List}
-use Prim.Native.Nat.{ℕ, _+_, _*_, _≤_}
+use Prim.Native.Nat.{ℕ, _≤_}
 use lib.ListN.{length, replicate}
 use Rattle.lists.specs.Over.{over}
-use Rattle.terms.specs.declared.Refusal.{Refusal}
 use Rattle.build.specs.declared.Built.{Built}
 use Rattle.build.specs.declared.Built.the-variants.{Made, Refused as NotBuilt}
 use Rattle.build.specs.Build.{builtOf, tableBy}

@@ -1,7 +1,7 @@
 -- The cases of the input's lines, as the functions that read them meet them.
 -- Assumes nothing.
 use mathlib.Core.Path.{_≡_, refl, sym, ap, _∙_}
-use mathlib.Core.List.{List, [], _∷_}
+use mathlib.Core.List.{List, []}
 use Prim.Native.Nat.{ℕ, zero, suc, _+_, _-_, _≤_, _<_}
 use native.Mathlib.Numerals.{add-one}
 use native.Mathlib.Omega.{arith}
@@ -16,7 +16,7 @@ use Rattle.start_list.specs.declared.Keys.{Keys}
 use Rattle.start_list.specs.declared.Keys.the-variants.{Count, Refused as NoKeys}
 use Rattle.start_list.specs.declared.Listed.{Listed}
 use Rattle.start_list.specs.declared.Listed.the-variants.{List as Given, Refused}
-use Rattle.start_list.specs.StartList.{keyOr, keysOf, valueOr, valuesOf, numberOr, counted, afterB, afterE, listedOf, givenAfterE, givenOf}
+use Rattle.start_list.specs.StartList.{keysOf, valuesOf, counted, afterB, afterE, listedOf, givenAfterE, givenOf}
 
 -- a line's end is inside the text
 pub line-inside : (m : ℕ) {l : Line} {v next : ℕ} → Inside m l → l ≡ Number v next → next ≤ m

@@ -1,17 +1,15 @@
 -- A start list is decided by its first 15 bytes for each line that it may have, the one key too many among them.
 -- Assumes nothing.
-use mathlib.Core.Path.{_≡_, refl, ap, _∙_}
-use mathlib.Core.List.{List, [], _∷_}
+use mathlib.Core.Path.{_≡_, refl, ap}
+use mathlib.Core.List.{List, _∷_}
 use Prim.Native.Nat.{ℕ, zero, suc, _+_, _*_, _≤_}
 use native.Mathlib.Omega.{arith}
 use lib.ListN.{length, take}
-use Rattle.terms.specs.declared.Refusal.the-variants.{KeyRoom}
 use Rattle.text.specs.declared.Line.{Line}
 use Rattle.text.specs.declared.Line.the-variants.{Number, Bad, End}
 use Rattle.text.specs.Lines.{lineAt}
 use Rattle.text.proofs.Long.{line-cut, line-near}
 use Rattle.start_list.specs.declared.Keys.{Keys}
-use Rattle.start_list.specs.declared.Keys.the-variants.{Count, Refused as NoKeys}
 use Rattle.start_list.specs.declared.Listed.{Listed}
 use Rattle.start_list.specs.StartList.{keyOr, keysOf, valueOr, valuesOf, numberOr, counted, afterB, afterE, listedOf, givenAfterE, givenOf}
 

@@ -2,7 +2,6 @@
 -- counting as a faulty line; if it is itself malformed it is 11. Missing e or B is 11 at the line that should be there."
 use mathlib.Core.List.{List, [], _∷_}
 use Prim.Native.Nat.{ℕ, zero, suc, _+_}
-use Rattle.terms.specs.declared.Refusal.{Refusal}
 use Rattle.terms.specs.declared.Refusal.the-variants.{KeyRoom, BadLine}
 use Rattle.text.specs.declared.Line.{Line}
 use Rattle.text.specs.declared.Line.the-variants.{Number, Bad, End}

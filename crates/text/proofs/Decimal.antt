@@ -1,19 +1,16 @@
 -- The digits of a number: how many, and written from the last one down.
 -- Assumes nothing.
 use mathlib.Core.Path.{_≡_, refl, sym, ap, _∙_}
-use mathlib.Core.List.{List, [], _∷_, _++_}
+use mathlib.Core.List.{List, [], _∷_}
 use Prim.Native.Nat.{ℕ, zero, suc, _+_, _-_, _*_, _/_, _%_, _^_, _≤_, _<_}
 use native.Mathlib.Nat.{pow-suc}
-use native.Mathlib.Numerals.{add-one}
 use native.Mathlib.Omega.{arith}
-use mir.Syntax.{w64}
-use mir.Val.{Fits}
-use lib.Dec.{leb, lit<}
+use lib.Dec.{leb}
 use lib.ListN.{length, set, length-append, length-set}
 use borrow.Author.Tests.{le-leb, lt-leb, leb-true, leb-false}
 use Rattle.lists.specs.Over.{over}
 use Rattle.lists.proofs.Tests.{either}
-use Rattle.lists.proofs.Over.{over-append, set-over}
+use Rattle.lists.proofs.Over.{over-append}
 use Rattle.text.specs.Decimal.{widthFrom, widthOf, digitsOf, decimalOf}
 
 pub width-most : (more x : ℕ) → widthFrom more x ≤ suc more

@@ -1,20 +1,17 @@
 -- A line is decided by its first fifteen bytes: what follows them does not matter, and the next line starts within them.
 -- Assumes nothing.
-use mathlib.Core.Path.{_≡_, refl, sym, ap, _∙_}
-use mathlib.Core.Bool.{true, false}
+use mathlib.Core.Path.{_≡_, refl}
 use mathlib.Core.List.{List, [], _∷_}
-use Prim.Native.Nat.{ℕ, zero, suc, _+_, _-_, _*_, _≤_, _<_, min}
-use native.Mathlib.Numerals.{add-one}
+use Prim.Native.Nat.{ℕ, zero, suc, _+_, _-_, _*_, _≤_, _<_}
 use native.Mathlib.Omega.{arith}
 use lib.Dec.{leb, eqb}
 use lib.ListN.{length, take, drop, length-take}
-use borrow.Author.Tests.{leb-true, leb-false, lt-leb}
+use borrow.Author.Tests.{leb-false, lt-leb}
 use Rattle.lists.proofs.Tests.{either}
 use Rattle.lists.proofs.Lists.{drop-take}
 use Rattle.text.specs.declared.Symbol.{Symbol}
 use Rattle.text.specs.declared.Symbol.the-variants.{Digit, Newline, Other}
-use Rattle.text.specs.declared.Line.{Line}
-use Rattle.text.specs.declared.Line.the-variants.{Number, Bad, End}
+use Rattle.text.specs.declared.Line.the-variants.{Number, Bad}
 use Rattle.text.specs.Lines.{digitsMost, symbolOf, restOf, byteOf, lineAt}
 
 never : {C : Type 0} {v next : ℕ} → Bad ≡ Number v next → C

@@ -1,6 +1,6 @@
 -- A number in decimal digits, the fewest that hold it.
 use mathlib.Core.List.{List, [], _∷_, _++_}
-use Prim.Native.Nat.{ℕ, zero, suc, _+_, _*_, _/_, _%_}
+use Prim.Native.Nat.{ℕ, zero, suc, _+_, _/_, _%_}
 use lib.Dec.{leb}
 use Rattle.lists.specs.Tests.{pick}
 
