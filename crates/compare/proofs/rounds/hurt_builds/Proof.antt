@@ -4,10 +4,10 @@ use Rattle.compare.proofs.rounds.hurt_builds.Statement.{statement}
 use Rattle.compare.proofs.rounds.hurt_builds.Tie as tie
 
 abbrev Inv-loop : tie.InvT-loop
-Inv-loop round x slots tally₀ keys₀ table₀ i₀ tally keys table i = 0 ≤ i
+Inv-loop round tally₀ x₀ i₀ tally x i = 0 ≤ i
 
 abbrev μ-loop : tie.MeasureT-loop
-μ-loop round x slots tally₀ keys₀ table₀ i₀ tally keys table i = 4 - i
+μ-loop round tally₀ x₀ i₀ tally x i = 4 - i
 
 pub hurt-builds-spec : {M : Type 1} → statement M
 hurt-builds-spec =
@@ -19,9 +19,10 @@ hurt-builds-spec =
     (λ c κs. search needs)  -- product-requires
     (λ c κs. search needs)  -- sum-requires
     (λ c κs. search needs)  -- bent-requires
-    (λ c κs. search needs)  -- build-requires
+    (λ c κs. search needs)  -- compare-requires
     (λ c κs. search needs)  -- sum-requires-2
-    (λ c κs. search needs)  -- hurt-key-requires
+    (λ c κs. search needs)  -- sum-requires-3
+    (λ c κs. search needs)  -- hurt-part-requires
     (λ c. search needs)  -- add-i
     (λ c. search needs)  -- loop-less
     (λ c. search needs)  -- loop-again

@@ -4,10 +4,10 @@ use Rattle.compare.proofs.rounds.hurt_calls.Statement.{statement}
 use Rattle.compare.proofs.rounds.hurt_calls.Tie as tie
 
 abbrev Inv-loop : tie.InvT-loop
-Inv-loop round keys₀ table₀ slots₀ tally₀ count x₀ i₀ keys table slots tally x i = 0 ≤ i
+Inv-loop round tally₀ count x₀ i₀ tally x i = 0 ≤ i
 
 abbrev μ-loop : tie.MeasureT-loop
-μ-loop round keys₀ table₀ slots₀ tally₀ count x₀ i₀ keys table slots tally x i = count - i
+μ-loop round tally₀ count x₀ i₀ tally x i = count - i
 
 pub hurt-calls-spec : {M : Type 1} → statement M
 hurt-calls-spec =

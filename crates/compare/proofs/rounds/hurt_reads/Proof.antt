@@ -4,10 +4,10 @@ use Rattle.compare.proofs.rounds.hurt_reads.Statement.{statement}
 use Rattle.compare.proofs.rounds.hurt_reads.Tie as tie
 
 abbrev Inv-loop : tie.InvT-loop
-Inv-loop round x image₀ size tally₀ keys₀ table₀ slots₀ i₀ image tally keys table slots i = 0 ≤ i
+Inv-loop round image₀ size tally₀ empty i₀ image tally i = 0 ≤ i
 
 abbrev μ-loop : tie.MeasureT-loop
-μ-loop round x image₀ size tally₀ keys₀ table₀ slots₀ i₀ image tally keys table slots i = 6 - i
+μ-loop round image₀ size tally₀ empty i₀ image tally i = 6 - i
 
 pub hurt-reads-spec : {M : Type 1} → statement M
 hurt-reads-spec =
@@ -15,13 +15,14 @@ hurt-reads-spec =
     (tie.spec
     Inv-loop
     μ-loop
+    (λ c κs. search needs)  -- blank-requires
     (λ c. search needs)  -- loop-holds
     (λ c κs. search needs)  -- product-requires
     (λ c κs. search needs)  -- sum-requires
     (λ c κs. search needs)  -- sum-requires-2
     (λ c κs. search needs)  -- bent-requires
     (λ c κs. search needs)  -- some-length-requires
-    (λ c κs. search needs)  -- read-requires
+    (λ c κs. search needs)  -- compare-image-requires
     (λ c κs. search needs)  -- sum-requires-3
     (λ c κs. search needs)  -- hurt-byte-requires
     (λ c. search needs)  -- add-i

@@ -4,10 +4,10 @@ use Rattle.compare.proofs.rounds.inserts.Statement.{statement}
 use Rattle.compare.proofs.rounds.inserts.Tie as tie
 
 abbrev Inv-loop : tie.InvT-loop
-Inv-loop round keys₀ table₀ slots₀ tally₀ count x₀ i₀ keys table slots tally x i = 0 ≤ i
+Inv-loop round tally₀ count x₀ i₀ tally x i = 0 ≤ i
 
 abbrev μ-loop : tie.MeasureT-loop
-μ-loop round keys₀ table₀ slots₀ tally₀ count x₀ i₀ keys table slots tally x i = count - i
+μ-loop round tally₀ count x₀ i₀ tally x i = count - i
 
 pub inserts-spec : {M : Type 1} → statement M
 inserts-spec =
@@ -19,7 +19,7 @@ inserts-spec =
     (λ c κs. search needs)  -- product-requires
     (λ c κs. search needs)  -- sum-requires
     (λ c κs. search needs)  -- some-key-requires
-    (λ c κs. search needs)  -- insert-requires
+    (λ c κs. search needs)  -- compare-requires
     (λ c κs. search needs)  -- grown-requires
     (λ c. search needs)  -- add-i
     (λ c. search needs)  -- loop-less

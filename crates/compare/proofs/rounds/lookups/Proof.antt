@@ -4,10 +4,10 @@ use Rattle.compare.proofs.rounds.lookups.Statement.{statement}
 use Rattle.compare.proofs.rounds.lookups.Tie as tie
 
 abbrev Inv-loop : tie.InvT-loop
-Inv-loop round x keys table slots tally₀ count i₀ tally i = 0 ≤ i
+Inv-loop round x tally₀ count i₀ tally i = 0 ≤ i
 
 abbrev μ-loop : tie.MeasureT-loop
-μ-loop round x keys table slots tally₀ count i₀ tally i = count - i
+μ-loop round x tally₀ count i₀ tally i = count - i
 
 pub lookups-spec : {M : Type 1} → statement M
 lookups-spec =
@@ -21,7 +21,7 @@ lookups-spec =
     (λ c κs. search needs)  -- some-key-requires
     (λ c κs. search needs)  -- sum-requires-2
     (λ c κs. search needs)  -- bent-requires
-    (λ c κs. search needs)  -- lookup-requires
+    (λ c κs. search needs)  -- compare-requires
     (λ c. search needs)  -- add-i
     (λ c. search needs)  -- loop-less
     (λ c. search needs)  -- loop-again

@@ -4,10 +4,10 @@ use Rattle.compare.proofs.rounds.ranges.Statement.{statement}
 use Rattle.compare.proofs.rounds.ranges.Tie as tie
 
 abbrev Inv-loop : tie.InvT-loop
-Inv-loop round x keys table slots tally₀ count i₀ tally i = 0 ≤ i
+Inv-loop round x tally₀ count i₀ tally i = 0 ≤ i
 
 abbrev μ-loop : tie.MeasureT-loop
-μ-loop round x keys table slots tally₀ count i₀ tally i = count - i
+μ-loop round x tally₀ count i₀ tally i = count - i
 
 pub ranges-spec : {M : Type 1} → statement M
 ranges-spec =
