@@ -32,6 +32,30 @@ pub fn blank(shape: Shape) -> Store {
     }
 }
 
+// Whether two slices hold the same.
+pub fn same_cells(a: &[u64], b: &[u64]) -> bool {
+    let m = a.len();
+    if m == b.len() {
+        for i in 0..m {
+            if a[i] != b[i] {
+                return false;
+            }
+        }
+        return true;
+    }
+    false
+}
+
+// Whether two stores hold the same in every cell, lent or not.
+pub fn same_store(x: Store, y: Store) -> bool {
+    if same_cells(&x.keys, &y.keys) {
+        if same_cells(&x.table, &y.table) {
+            return same_cells(&x.slots, &y.slots);
+        }
+    }
+    false
+}
+
 // The store with other counts of keys and segments.
 pub fn with_counts(mut x: Store, n: u64, s: u64) -> Store {
     x.shape.n = n;

@@ -4,6 +4,8 @@ use crate::call::Call;
 use crate::call::in_numbers;
 use crate::lend::lend;
 use draws::store::Store;
+use draws::store::same_cells;
+use draws::store::same_store;
 
 // The number of the call's kind, the two answers, the store as its own side left it, and whether both sides left the same cells and bytes.
 pub struct Both {
@@ -14,21 +16,7 @@ pub struct Both {
     pub same: bool,
 }
 
-// Whether two slices hold the same.
-fn same_cells(a: &[u64], b: &[u64]) -> bool {
-    let m = a.len();
-    if m == b.len() {
-        for i in 0..m {
-            if a[i] != b[i] {
-                return false;
-            }
-        }
-        return true;
-    }
-    false
-}
-
-// Whether two images do.
+// Whether two images are the same.
 fn same_bytes(a: &[u8], b: &[u8]) -> bool {
     let m = a.len();
     if m == b.len() {
@@ -77,13 +65,9 @@ fn on_side(plain: bool, c: Asked, x: Store, image: &mut [u8]) -> Side {
 
 // Every cell and byte that a call may write.
 fn same(a: Side, p: Side, image: &[u8], image2: &[u8]) -> bool {
-    if same_cells(&a.store.keys, &p.store.keys) {
-        if same_cells(&a.store.table, &p.store.table) {
-            if same_cells(&a.store.slots, &p.store.slots) {
-                if same_cells(&a.out, &p.out) {
-                    return same_bytes(image, image2);
-                }
-            }
+    if same_store(a.store, p.store) {
+        if same_cells(&a.out, &p.out) {
+            return same_bytes(image, image2);
         }
     }
     false

@@ -1,7 +1,7 @@
 use borrow.Author.Needs.{needs}
 use Prim.Native.Nat.{_≤_, _-_}
-use Rattle.sides.proofs.both.same_cells.Statement.{statement}
-use Rattle.sides.proofs.both.same_cells.Tie as tie
+use Rattle.draws.proofs.store.same_cells.Statement.{statement}
+use Rattle.draws.proofs.store.same_cells.Tie as tie
 
 abbrev Inv-loop : tie.InvT-loop
 Inv-loop a b m i₀ i = 0 ≤ i
