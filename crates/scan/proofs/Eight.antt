@@ -1,104 +1,162 @@
 -- A search that goes eight places at a time.
 -- Assumes nothing.
-use mathlib.Core.Path.{_≡_, refl, sym, _∙_}
+use mathlib.Core.Path.{_≡_, refl, sym, ap, _∙_}
 use mathlib.Core.Bool.{Bool, true, false}
 use mathlib.Core.List.{List}
 use Prim.Native.Nat.{ℕ, zero, suc, _+_, _-_, _≤_, _<_}
 use native.Mathlib.Omega.{arith}
-use lib.Dec.{leb}
 use lib.ListN.{length, getD}
-use borrow.Author.Tests.{leb-true, le-leb, lt-leb}
-use Rattle.lists.proofs.Tests.{either, both-true, clash}
+use borrow.Author.Tests.{leb-true, leb-false}
+use lib.Dec.{leb}
+use Rattle.lists.proofs.Tests.{either, clash}
 use Rattle.scan.specs.declared.Found.{Found}
 use Rattle.scan.specs.declared.Found.the-variants.{At, Nothing}
 use Rattle.scan.specs.Scan.{firstOf, lowestOf, noneOf}
-use Rattle.scan.specs.Eight.{eightOf, Inside, Skipped}
-use Rattle.scan.specs.Meaning.{Holds, Scanned}
-use Rattle.scan.proofs.Laws.{scan-on, scan-end}
-use Rattle.scan.proofs.Meaning.{scanned}
+use Rattle.scan.specs.Eight.{aheadOf, Eighted}
+use Rattle.scan.specs.Meaning.{None, Lowest, Holds, Scanned}
+use Rattle.scan.proofs.Laws.{scan-here, scan-on, scan-end}
+use Rattle.scan.proofs.Meaning.{scanned, one-answer}
 
--- one of them holds it
-module _ (xs : List ℕ) (i last k : ℕ) where
-  held-at : (j : ℕ) → j < 8 → getD xs (i + j) 0 ≡ k → false ≡ noneOf (lowestOf xs i 8 k)
-  held-at j h e = go (lowestOf xs i 8 k) (scanned xs k i 8)
-    where
-      go : (f : Found) → Scanned (Holds xs k) i (i + 8) f → false ≡ noneOf f
-      go (At p) w = refl
-      go Nothing w = absurd (w (i + j) (omega arith) (omega (arith, h)) e)
+-- the eight places from i on, as they are read
+module _ (xs : List ℕ) (i k : ℕ) where
+  -- the place i + j holds another key; the first j places do
+  abbrev Other : ℕ → Type 0
+  Other j = getD xs (i + j) 0 ≡ k → ⊥
 
-  pub eight-one : (j : ℕ) → j < 8 → i ≤ last → getD xs (i + j) 0 ≡ k → false ≡ eightOf xs i last k
-  unfolding eightOf
-  eight-one j h room e = simp (le-leb _ _ room) (held-at j h e)
+  pub Others : ℕ → Type 0
+  Others j = None (Holds xs k) i (i + j)
 
-  -- they are not all there
-  pub eight-few : last < i → false ≡ eightOf xs i last k
-  unfolding eightOf
-  eight-few h = simp (lt-leb _ _ h)
+  more : (j : ℕ) → Others j → Other j → Others (suc j)
+  unfolding Others
+  more j before here q h g e =
+      either (leb (suc q) (i + j)) (λ t. before q h (leb-true _ _ t) e)
+      (λ t. let s : q ≡ i + j = omega (arith, g, leb-false (suc q) (i + j) t) in here (rw s at e))
 
--- none of them does: place by place
-skip-one : (xs : List ℕ) (i to k j : ℕ) → i + suc j ≤ to → (getD xs (i + j) 0 ≡ k → ⊥) → lowestOf xs i (to - i) k ≡ lowestOf xs (i + j) (to - (i + j)) k → lowestOf xs i (to - i) k ≡ lowestOf xs (i + suc j) (to - (i + suc j)) k
-skip-one xs i to k j room other so-far = let e : i + j + 1 ≡ i + suc j = omega arith in rw e at (scan-on xs i to k (i + j) so-far (omega (arith, room)) other)
+  pub none-0 : Others 0
+  unfolding Others
+  none-0 q h g e = absurd (omega (arith, h, g))
 
-pub eight-none : (xs : List ℕ) (i last k : ℕ) → i ≤ last → (getD xs (i + 0) 0 ≡ k → ⊥) → (getD xs (i + 1) 0 ≡ k → ⊥) → (getD xs (i + 2) 0 ≡ k → ⊥) → (getD xs (i + 3) 0 ≡ k → ⊥) → (getD xs (i + 4) 0 ≡ k → ⊥) → (getD xs (i + 5) 0 ≡ k → ⊥) → (getD xs (i + 6) 0 ≡ k → ⊥) → (getD xs (i + 7) 0 ≡ k → ⊥) → true ≡ eightOf xs i last k
-unfolding eightOf
-eight-none xs i last k room h0 h1 h2 h3 h4 h5 h6 h7 =
-    let z : i + 0 ≡ i = omega arith in
-    let s0 : lowestOf xs i (i + 8 - i) k ≡ lowestOf xs (i + 0) (i + 8 - (i + 0)) k = rw z in
-    let s1 : lowestOf xs i (i + 8 - i) k ≡ lowestOf xs (i + 1) (i + 8 - (i + 1)) k = skip-one xs i (i + 8) k 0 (omega arith) h0 s0 in
-    let s2 : lowestOf xs i (i + 8 - i) k ≡ lowestOf xs (i + 2) (i + 8 - (i + 2)) k = skip-one xs i (i + 8) k 1 (omega arith) h1 s1 in
-    let s3 : lowestOf xs i (i + 8 - i) k ≡ lowestOf xs (i + 3) (i + 8 - (i + 3)) k = skip-one xs i (i + 8) k 2 (omega arith) h2 s2 in
-    let s4 : lowestOf xs i (i + 8 - i) k ≡ lowestOf xs (i + 4) (i + 8 - (i + 4)) k = skip-one xs i (i + 8) k 3 (omega arith) h3 s3 in
-    let s5 : lowestOf xs i (i + 8 - i) k ≡ lowestOf xs (i + 5) (i + 8 - (i + 5)) k = skip-one xs i (i + 8) k 4 (omega arith) h4 s4 in
-    let s6 : lowestOf xs i (i + 8 - i) k ≡ lowestOf xs (i + 6) (i + 8 - (i + 6)) k = skip-one xs i (i + 8) k 5 (omega arith) h5 s5 in
-    let s7 : lowestOf xs i (i + 8 - i) k ≡ lowestOf xs (i + 7) (i + 8 - (i + 7)) k = skip-one xs i (i + 8) k 6 (omega arith) h6 s6 in
-    let s8 : lowestOf xs i (i + 8 - i) k ≡ lowestOf xs (i + 8) (i + 8 - (i + 8)) k = skip-one xs i (i + 8) k 7 (omega arith) h7 s7 in
-    let d : i + 8 - i ≡ 8 = omega arith in
-    let n : lowestOf xs i 8 k ≡ Nothing = sym (rw d at (scan-end xs i (i + 8) k (i + 8) s8 (omega arith))) in
-    simp (le-leb _ _ room, n)
+  pub none-1 : Other 0 → Others 1
+  none-1 h0 = more 0 none-0 h0
+
+  pub none-2 : Other 0 → Other 1 → Others 2
+  none-2 h0 h1 = more 1 (none-1 h0) h1
+
+  pub none-3 : Other 0 → Other 1 → Other 2 → Others 3
+  none-3 h0 h1 h2 = more 2 (none-2 h0 h1) h2
+
+  pub none-4 : Other 0 → Other 1 → Other 2 → Other 3 → Others 4
+  none-4 h0 h1 h2 h3 = more 3 (none-3 h0 h1 h2) h3
+
+  pub none-5 : Other 0 → Other 1 → Other 2 → Other 3 → Other 4 → Others 5
+  none-5 h0 h1 h2 h3 h4 = more 4 (none-4 h0 h1 h2 h3) h4
+
+  pub none-6 : Other 0 → Other 1 → Other 2 → Other 3 → Other 4 → Other 5 → Others 6
+  none-6 h0 h1 h2 h3 h4 h5 = more 5 (none-5 h0 h1 h2 h3 h4) h5
+
+  pub none-7 : Other 0 → Other 1 → Other 2 → Other 3 → Other 4 → Other 5 → Other 6 → Others 7
+  none-7 h0 h1 h2 h3 h4 h5 h6 = more 6 (none-6 h0 h1 h2 h3 h4 h5) h6
+
+  pub none-8 : Other 0 → Other 1 → Other 2 → Other 3 → Other 4 → Other 5 → Other 6 → Other 7 → Others 8
+  none-8 h0 h1 h2 h3 h4 h5 h6 h7 = more 7 (none-7 h0 h1 h2 h3 h4 h5 h6) h7
+
+  -- the first that holds it, and none
+  pub ahead-at : (j : ℕ) → j < 8 → Others j → getD xs (i + j) 0 ≡ k → j ≡ aheadOf i (lowestOf xs i 8 k)
+  unfolding Others
+  ahead-at j h before e =
+      let l : Lowest (Holds xs k) i (i + 8) (i + j) = record { from = omega arith; below = omega (arith, h); holds = e; first = before } in
+      let f : lowestOf xs i 8 k ≡ At (i + j) = one-answer (Holds xs k) i (i + 8) (lowestOf xs i 8 k) (At (i + j)) (scanned xs k i 8) l in
+      let d : i + j - i ≡ j = omega arith in
+      sym (ap (aheadOf i) f ∙ d)
+
+  pub ahead-none : Others 8 → 8 ≡ aheadOf i (lowestOf xs i 8 k)
+  unfolding Others
+  ahead-none none = sym (ap (aheadOf i) (one-answer (Holds xs k) i (i + 8) (lowestOf xs i 8 k) Nothing (scanned xs k i 8) none))
 
 -- what the reads ask
-pub eight-held : (xs : List ℕ) (i last j : ℕ) → last + 8 ≤ length xs → i ≤ last → j < 8 → i + j < length xs
-eight-held xs i last j held room h = omega (arith, held, room, h)
+pub ahead-held : (xs : List ℕ) (i j : ℕ) → i + 8 ≤ length xs → j < 8 → i + j < length xs
+ahead-held xs i j held h = omega (arith, held, h)
 
-pub ruleset eight-cases = (eight-one, eight-few, eight-none, eight-held)
+pub ruleset ahead-cases = (none-0, none-1, none-2, none-3, none-4, none-5, none-6, none-7, none-8, ahead-at, ahead-none, ahead-held)
 
--- where none of the eight holds it, they are skipped
-all-eight : (xs : List ℕ) (i last k : ℕ) → true ≡ eightOf xs i last k → (i ≤ last) × (noneOf (lowestOf xs i 8 k) ≡ true)
-unfolding eightOf
-all-eight xs i last k e =
-    let p : (leb i last ≡ true) × (noneOf (lowestOf xs i 8 k) ≡ true) = both-true _ _ (sym e) in (leb-true _ _ (p .0), p .1)
+-- what the number says
+module _ (xs : List ℕ) (i k j : ℕ) (answer : j ≡ aheadOf i (lowestOf xs i 8 k)) where
+  hit : j < 8 → lowestOf xs i 8 k ≡ At (i + j)
+  hit h = go (lowestOf xs i 8 k) (scanned xs k i 8) answer
+    where
+      go : (f : Found) → Scanned (Holds xs k) i (i + 8) f → j ≡ aheadOf i f → f ≡ At (i + j)
+      go (At p) w a = ap At (omega (arith, w .from, a))
+      go Nothing w a = absurd (omega (arith, a, h))
 
-first-none : (test : ℕ → Bool) (i c d : ℕ) → noneOf (firstOf test i c) ≡ true → firstOf test i (c + d) ≡ firstOf test (i + c) d
+  miss : 8 ≤ j → lowestOf xs i 8 k ≡ Nothing
+  miss h = go (lowestOf xs i 8 k) (scanned xs k i 8) answer
+    where
+      go : (f : Found) → Scanned (Holds xs k) i (i + 8) f → j ≡ aheadOf i f → f ≡ Nothing
+      go (At p) w a = absurd (omega (arith, w .from, w .below, a, h))
+      go Nothing w a = refl
+
+-- a search of more places
+first-more : (test : ℕ → Bool) (i c d p : ℕ) → firstOf test i c ≡ At p → firstOf test i (c + d) ≡ At p
+unfolding firstOf
+first-more test i zero d p e = clash (ap noneOf e)
+first-more test i (suc c) d p e =
+    let w : suc c + d ≡ suc (c + d) = omega arith in
+    either (test i) (λ t. rw w (simp t (simp t at e))) (λ t. rw w (simp t (first-more test (suc i) c d p (simp t at e))))
+
+first-none : (test : ℕ → Bool) (i c d : ℕ) → firstOf test i c ≡ Nothing → firstOf test i (c + d) ≡ firstOf test (i + c) d
 unfolding firstOf
 first-none test i zero d e =
     let z : i + 0 ≡ i = omega arith in
     let w : zero + d ≡ d = omega arith in
     rw (z, w)
 first-none test i (suc c) d e =
-    either (test i) (λ t. clash (sym (simp t at e)))
+    either (test i) (λ t. clash (sym (ap noneOf (simp t at e))))
     (λ t.
     let m : i + suc c ≡ suc i + c = omega arith in
     let w : suc c + d ≡ suc (c + d) = omega arith in
     rw (m, w) (simp t (first-none test (suc i) c d (simp t at e))))
 
-pub skip-start : (xs : List ℕ) (from to k : ℕ) → Inside xs from to → Skipped xs from to k from
-skip-start xs from to k inside = record { before = inside .before; so-far = refl }
+-- the search that has come to i
+module _ (xs : List ℕ) (from to k i j : ℕ) (room : Eighted xs to) (so-far : lowestOf xs from (to - from) k ≡ lowestOf xs i (to - i) k) (there : i ≤ to - 8) where
+  pub eight-asks : i + 8 ≤ length xs
+  eight-asks = omega (arith, room .eight, room .held, there)
 
-pub skip-asks : (xs : List ℕ) (from to : ℕ) → Inside xs from to → 8 ≤ to - from → to - 8 + 8 ≤ length xs
-skip-asks xs from to inside room = omega (arith, inside .held, inside .before, room)
+  pub eight-less : to - (i + 8) < to - i
+  eight-less = omega (arith, room .eight, there)
 
-module _ (xs : List ℕ) (from to i k : ℕ) (room : 8 ≤ to - from) {r : Bool} (answer : r ≡ eightOf xs i (to - 8) k) (yes : r ≡ true) where
-  eight-there : (i ≤ to - 8) × (noneOf (lowestOf xs i 8 k) ≡ true)
-  eight-there = all-eight xs i (to - 8) k (sym yes ∙ answer)
+  module _ (answer : j ≡ aheadOf i (lowestOf xs i 8 k)) where
+    pub eight-here : j < 8 → At (i + j) ≡ lowestOf xs from (to - from) k
+    unfolding lowestOf
+    eight-here h =
+        let d : to - i ≡ 8 + (to - (i + 8)) = omega (arith, room .eight, there) in
+        let f : lowestOf xs i (to - i) k ≡ At (i + j) = rw d (first-more _ i 8 (to - (i + 8)) (i + j) (hit xs i k j answer h)) in
+        sym (so-far ∙ f)
 
-  pub skip-less : to - (i + 8) < to - i
-  skip-less = omega (arith, room, eight-there .0)
+    pub eight-on : 8 ≤ j → lowestOf xs from (to - from) k ≡ lowestOf xs (i + 8) (to - (i + 8)) k
+    unfolding lowestOf
+    eight-on h =
+        let d : to - i ≡ 8 + (to - (i + 8)) = omega (arith, room .eight, there) in
+        let f : lowestOf xs i (to - i) k ≡ lowestOf xs (i + 8) (to - (i + 8)) k = rw d (first-none _ i 8 (to - (i + 8)) (miss xs i k j answer h)) in
+        so-far ∙ f
 
-  pub skip-on : Skipped xs from to k i → Skipped xs from to k (i + 8)
-  unfolding lowestOf
-  skip-on done =
-      let d : to - i ≡ 8 + (to - (i + 8)) = omega (arith, room, eight-there .0) in
-      let s : lowestOf xs i (to - i) k ≡ lowestOf xs (i + 8) (to - (i + 8)) k = rw d (first-none _ i 8 (to - (i + 8)) (eight-there .1)) in
-      record { before = omega (arith, room, eight-there .0); so-far = done .so-far ∙ s }
+-- what is left decides
+pub eight-rest : {r : Found} (xs : List ℕ) (from to k i : ℕ) → lowestOf xs from (to - from) k ≡ lowestOf xs i (to - i) k → r ≡ lowestOf xs i (to - i) k → r ≡ lowestOf xs from (to - from) k
+eight-rest xs from to k i so-far answer = answer ∙ sym so-far
 
-pub ruleset skip-cases = (skip-start, skip-asks, skip-less, skip-on)
+pub ruleset eight-cases = (eight-asks, eight-less, eight-here, eight-on, eight-rest)
+
+-- no place, the first one, and those after it
+module _ (xs : List ℕ) (from to k : ℕ) where
+  pub find-none : to ≤ from → Nothing ≡ lowestOf xs from (to - from) k
+  find-none h = scan-end xs from to k from refl h
+
+  pub find-first : from < to → getD xs from 0 ≡ k → At from ≡ lowestOf xs from (to - from) k
+  find-first some e = scan-here xs from to k from refl some e
+
+  pub find-after : {r : Found} → from < to → (getD xs from 0 ≡ k → ⊥) → r ≡ lowestOf xs (from + 1) (to - (from + 1)) k → r ≡ lowestOf xs from (to - from) k
+  find-after some other answer = answer ∙ sym (scan-on xs from to k from refl some other)
+
+  pub find-asks : to ≤ length xs → 8 < to - from → Eighted xs to
+  find-asks held long = record { eight = omega (arith, long); held = held }
+
+pub ruleset find-cases = (find-none, find-first, find-after, find-asks)

@@ -142,22 +142,22 @@ pub fn damaged(x: Entry, b: usize, n: usize) -> bool
     if n < x.end.0 {
         return true;
     }
-    if b <= x.held {
-        return true;
-    }
-    if terms::KEY_LIMIT <= x.run {
-        return true;
-    }
     if terms::RISE_MOST < x.rise {
         return true;
     }
-    if x.end.0 <= x.base.0 {
+    if b <= x.held {
         return true;
     }
     if x.run == 0 {
         return true;
     }
+    if x.end.0 <= x.base.0 {
+        return true;
+    }
     if terms::KEY_LIMIT <= x.first.0 {
+        return true;
+    }
+    if terms::KEY_LIMIT <= x.run {
         return true;
     }
     false
