@@ -46,7 +46,8 @@ use Rattle.merging.specs.Judged.{piecesOf as cutInto, Judgeable}
 use Rattle.merging.proofs.Laws.{cut-rises, unruly-falls}
 use Rattle.insert.specs.declared.Inserted.{Inserted}
 use Rattle.insert.specs.declared.Inserted.the-variants.{Buffered, Merged, Refused}
-use Rattle.insert.specs.Insert.{mergedWith, piecesOf, roomFor, laterOk, laterFor, mergeFor, placedFor, unlessFound, segmentFor, insertOf}
+use Rattle.joining.specs.Merged.{mergedWith, piecesOf, laterOk}
+use Rattle.insert.specs.Insert.{roomFor, laterFor, mergeFor, placedFor, unlessFound, segmentFor, insertOf}
 use Rattle.insert.specs.Decide.{passesOf, laterOf, roomedOf, soundFor, Counts, Keyed, Picked, Seated, Asked, Free, Fitting, Crowded}
 
 -- ---- a later entry, and the lowest that is wrong

@@ -29,9 +29,10 @@ use Rattle.lookup.specs.Lookup.{searchedOf}
 use Rattle.lookup.proofs.Laws.{slot-inside}
 use Rattle.insert.specs.declared.Inserted.{Inserted}
 use Rattle.insert.specs.declared.Inserted.the-variants.{Buffered, Merged, Refused}
-use Rattle.insert.specs.Insert.{mergedWith, piecesOf, roomFor, laterOk, laterFor, mergeFor, placedFor, unlessFound, segmentFor, insertOf}
-use Rattle.insert.specs.Cells.{putSlots}
-use Rattle.insert.specs.Write.{Holding, Holdable, Mergeable}
+use Rattle.joining.specs.Merged.{mergedWith, piecesOf, laterOk}
+use Rattle.insert.specs.Insert.{roomFor, laterFor, mergeFor, placedFor, unlessFound, segmentFor, insertOf}
+use Rattle.joining.specs.Cells.{putSlots}
+use Rattle.joining.specs.Write.{Holding, Holdable, Mergeable}
 
 abbrev pub Due : Store → ℕ → Inserted → Type 0
 Due σ k (Buffered i j) = Holdable σ i j k

@@ -1,36 +1,25 @@
 -- 01, "Insert" and "Insert: 1, 2, 9 (entry, buffer), 5, 9 (merge), 6, 7": what it answers, on every input.
-use mathlib.Core.Bool.{Bool}
-use mathlib.Core.List.{List}
 use Prim.Native.Nat.{ℕ, suc, _+_, _-_}
 use lib.Dec.{ltb, leb}
-use lib.ListN.{length}
-use Rattle.lists.specs.Tests.{pick, both}
+use Rattle.lists.specs.Tests.{pick}
 use Rattle.lists.specs.Rising.{upOf}
-use Rattle.lists.specs.Merge.{merge, insertSorted, placeOf}
+use Rattle.lists.specs.Merge.{placeOf}
 use Rattle.terms.specs.Limits.{keyLimit, keyOf}
 use Rattle.terms.specs.declared.Refusal.the-variants.{Limits, LargeKey, Present, KeyRoom, SegmentRoom, StoreWrong}
 use Rattle.table.specs.Store.{Store}
 use Rattle.table.specs.Limits.{limitedOf, keyRoom, segmentRoom}
-use Rattle.table.specs.Entries.{entryIn, runIn, usedIn}
+use Rattle.table.specs.Entries.{entryIn, usedIn}
 use Rattle.table.specs.Damaged.{damagedOf}
 use Rattle.table.specs.Chosen.{chosenOf}
 use Rattle.scan.specs.declared.Found.{Found}
 use Rattle.scan.specs.declared.Found.the-variants.{At, Nothing}
 use Rattle.scan.specs.Scan.{failsOf}
-use Rattle.cone.specs.Rule.{cut}
 use Rattle.lookup.specs.declared.Looked.{Looked}
 use Rattle.lookup.specs.declared.Looked.the-variants.{InRun, InBuffer, Absent, Refused as NotLooked}
 use Rattle.lookup.specs.Lookup.{searchedOf}
+use Rattle.joining.specs.Merged.{mergedWith, piecesOf, laterOk}
 use Rattle.insert.specs.declared.Inserted.{Inserted}
 use Rattle.insert.specs.declared.Inserted.the-variants.{Buffered, Merged, Refused}
-
--- "the run, the used slots and k become one rising list"
-abbrev pub mergedWith : Store → ℕ → ℕ → List ℕ
-mergedWith σ i k = merge (runIn σ i) (insertSorted k (usedIn σ i))
-
--- "that list alone is cut with e": into t segments
-abbrev pub piecesOf : Store → ℕ → ℕ → ℕ
-piecesOf σ i k = length (cut (σ .e) (mergedWith σ i k))
 
 -- 6: "merge due and n+B above key room"; 7: "result needs more segments than segment room".
 -- "The answer is i, t and the new n and s"
@@ -43,9 +32,6 @@ roomFor σ i k =
     (Refused KeyRoom)
 
 -- 9, merge due: "the merged list not so" (strictly rising and below 2^44), "or a later entry with base above n or held ≥ B (the lowest such)"
-unfoldable pub laterOk : Store → ℕ → Bool
-laterOk σ j = both (leb (entryIn σ j .base .0) (σ .n)) (ltb (entryIn σ j .held) (σ .b))
-
 abbrev pub laterFor : Found → Inserted → Inserted
 laterFor (At j) rest = Refused (StoreWrong j)
 laterFor Nothing rest = rest

@@ -35,7 +35,8 @@ use Rattle.lookup_laws.specs.Answers.{Asked, Taken, Answers as Looks, in-run, i
 use Rattle.lookup_laws.proofs.Meaning.{answers as looks, only as looked, chosen-one}
 use Rattle.insert.specs.declared.Inserted.{Inserted}
 use Rattle.insert.specs.declared.Inserted.the-variants.{Buffered, Merged, Refused}
-use Rattle.insert.specs.Insert.{mergedWith, piecesOf, roomFor, laterOk, laterFor, mergeFor, placedFor, unlessFound, segmentFor, insertOf}
+use Rattle.joining.specs.Merged.{mergedWith, piecesOf, laterOk}
+use Rattle.insert.specs.Insert.{roomFor, laterFor, mergeFor, placedFor, unlessFound, segmentFor, insertOf}
 use Rattle.insert_laws.specs.Answers.{Judged, New, Place, Due, Rising, Passes, Ready, Answers, buffered, merged, refused-1, refused-2, refused-9-entry, refused-9-buffer, refused-5-run, refused-5-slot, refused-9-merged, refused-9-later, refused-6, refused-7}
 
 -- ---- the rising place

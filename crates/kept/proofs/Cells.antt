@@ -10,7 +10,7 @@ use Rattle.lists.proofs.Lists.{take-front, drop-front}
 use Rattle.segments.specs.Seg.{Seg, runsOf, Bare}
 use Rattle.segments.specs.Cuts.{rows}
 use Rattle.shown.specs.Shows.{Slots}
-use Rattle.insert.specs.Cells.{raised, heldOf, laid}
+use Rattle.joining.specs.Cells.{raised, heldOf, laid}
 
 -- ---- rows
 

@@ -31,8 +31,10 @@ use Rattle.shown.proofs.Accepts.{shown-accepted}
 use Rattle.shown.proofs.Views.{first-of, all-of, length-segs, segs-split, length-used, accepted-chain, accepted-shown}
 use Rattle.insert.specs.declared.Inserted.{Inserted}
 use Rattle.insert.specs.declared.Inserted.the-variants.{Buffered, Merged}
-use Rattle.insert.specs.Insert.{mergedWith, piecesOf, insertOf}
-use Rattle.insert.specs.Cells.{putSlots, mergedKeys, mergedTable, mergedSlots, storeBy}
+use Rattle.joining.specs.Merged.{mergedWith, piecesOf}
+use Rattle.insert.specs.Insert.{insertOf}
+use Rattle.joining.specs.Cells.{putSlots, mergedKeys, mergedTable, mergedSlots}
+use Rattle.insert.specs.Cells.{storeBy}
 use Rattle.kept.specs.Outcome.{Wanted, Outcome, large, present, no-keys, no-segments, buffered as put, merged}
 use Rattle.kept.specs.Recut.{Recut, Leaves}
 use Rattle.kept.specs.After.{afterOne, listBy}

@@ -43,7 +43,8 @@ use Rattle.shown.proofs.Views.{length-run, length-used}
 use Rattle.shown.proofs.Found.{found-read, absent-unread, unread-absent}
 use Rattle.insert.specs.declared.Inserted.{Inserted}
 use Rattle.insert.specs.declared.Inserted.the-variants.{Buffered, Merged, Refused}
-use Rattle.insert.specs.Insert.{mergedWith, piecesOf, roomFor, laterOk, mergeFor, placedFor, unlessFound, segmentFor, insertOf}
+use Rattle.joining.specs.Merged.{mergedWith, piecesOf, laterOk}
+use Rattle.insert.specs.Insert.{roomFor, mergeFor, placedFor, unlessFound, segmentFor, insertOf}
 use Rattle.kept.specs.Outcome.{Wanted, Due, Says, Outcome, large, present, buffered, no-keys, no-segments, merged}
 
 module _ (σ : Store) (ok : Accepted σ) (k : ℕ) where

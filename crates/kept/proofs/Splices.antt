@@ -22,8 +22,9 @@ use Rattle.segments.proofs.Insert.{runs-append}
 use Rattle.shown.specs.Shows.{segOf, Slots, Shown}
 use Rattle.shown.proofs.Shown.{entryBy, shown-next, shown-entry, shown-segment}
 use Rattle.insert.specs.declared.Inserted.the-variants.{Buffered, Merged}
-use Rattle.insert.specs.Insert.{mergedWith}
-use Rattle.insert.specs.Cells.{putSlots, raised, heldOf, laid, mergedKeys, mergedTable, mergedSlots, storeBy}
+use Rattle.joining.specs.Merged.{mergedWith}
+use Rattle.joining.specs.Cells.{putSlots, raised, heldOf, laid, mergedKeys, mergedTable, mergedSlots}
+use Rattle.insert.specs.Cells.{storeBy}
 use Rattle.kept.proofs.Cells.{rows-append, length-rows, raised-rows, slots-split, slots-join, HeldBy, slots-front, bare-slots, helds, held-rows, laid-slots, length-laid}
 
 shown-skip : (σ : Store) (pre ys : List Seg) (i at : ℕ) → Shown σ i at (pre ++ ys) → Shown σ (i + length pre) (at + length (runsOf pre)) ys

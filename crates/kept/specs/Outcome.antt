@@ -13,7 +13,7 @@ use Rattle.table.specs.Chosen.{Chosen}
 use Rattle.table.specs.Reads.{reads}
 use Rattle.insert.specs.declared.Inserted.{Inserted}
 use Rattle.insert.specs.declared.Inserted.the-variants.{Buffered, Merged, Refused}
-use Rattle.insert.specs.Insert.{piecesOf}
+use Rattle.joining.specs.Merged.{piecesOf}
 
 -- k is a key, the store does not have it, and segment i is the one chosen for it
 pub record Wanted (σ : Store) (k i : ℕ) : Type 0 where

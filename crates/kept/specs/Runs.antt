@@ -25,8 +25,9 @@ use Rattle.lookup.specs.declared.Looked.the-variants.{Absent}
 use Rattle.lookup.specs.Lookup.{bufferedOf, searchedOf, segmentOf as lookedIn, lookupOf}
 use Rattle.insert.specs.declared.Inserted.{Inserted}
 use Rattle.insert.specs.declared.Inserted.the-variants.{Buffered, Merged, Refused}
-use Rattle.insert.specs.Insert.{roomFor, laterOk, mergeFor, placedFor, segmentFor, insertOf}
-use Rattle.insert.specs.Cells.{putSlots, mergedKeys, raised, mergedTable, heldOf, laid, mergedSlots}
+use Rattle.joining.specs.Merged.{laterOk}
+use Rattle.insert.specs.Insert.{roomFor, mergeFor, placedFor, segmentFor, insertOf}
+use Rattle.joining.specs.Cells.{putSlots, mergedKeys, raised, mergedTable, heldOf, laid, mergedSlots}
 use Rattle.kept.specs.After.{afterOne, after}
 
 -- so many cells of 7

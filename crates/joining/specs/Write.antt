@@ -18,7 +18,7 @@ use Rattle.cone.specs.Keys.{Cuttable}
 use Rattle.cutting.specs.Rows.{rowsOf}
 use Rattle.moves.specs.Tail.{raisedUp}
 use Rattle.moves.specs.Slots.{heldOf, laid}
-use Rattle.insert.specs.Insert.{mergedWith, piecesOf, laterOk}
+use Rattle.joining.specs.Merged.{mergedWith, piecesOf, laterOk}
 
 -- ---- buffered
 

@@ -1,7 +1,7 @@
 use borrow.Author.Needs.{needs}
-use Rattle.insert.proofs.Writing.{recut-cases}
-use Rattle.insert.proofs.recut.Statement.{statement}
-use Rattle.insert.proofs.recut.Tie as tie
+use Rattle.joining.proofs.Writing.{recut-cases}
+use Rattle.joining.proofs.recut.Statement.{statement}
+use Rattle.joining.proofs.recut.Tie as tie
 
 pub recut-spec : {M : Type 1} → statement M
 recut-spec =

@@ -26,15 +26,14 @@ use Rattle.cone.specs.Cover.{Tiled}
 use Rattle.cone.specs.Keys.{Cuttable}
 use Rattle.cone.proofs.Cover.{parted}
 use Rattle.cutting.specs.Rows.{rowsOf, Known}
-use Rattle.lookup.proofs.Laws.{slot-inside}
 use Rattle.moves.specs.Shift.{shiftUp}
 use Rattle.moves.specs.Join.{Puttable}
 use Rattle.moves.specs.Tail.{raised, raisedUp, Tail}
 use Rattle.moves.specs.Slots.{heldOf, laid, lifted, Liftable}
 use Rattle.moves.proofs.Shift.{take-shift, drop-shift}
-use Rattle.insert.specs.Insert.{mergedWith, piecesOf, laterOk}
-use Rattle.insert.specs.Cells.{putSlots, mergedKeys, mergedTable, mergedSlots}
-use Rattle.insert.specs.Write.{Holding, joinedKeys, Joinable, slotsUp, SlotsLater, rowsUp, RowsLater, Later, joinedPart, recutTable, Recuttable, Mergeable}
+use Rattle.joining.specs.Merged.{mergedWith, piecesOf, laterOk}
+use Rattle.joining.specs.Cells.{putSlots, mergedKeys, mergedTable, mergedSlots}
+use Rattle.joining.specs.Write.{Holding, joinedKeys, Joinable, slotsUp, SlotsLater, rowsUp, RowsLater, Later, joinedPart, recutTable, Recuttable, Mergeable}
 
 -- ---- into a slot
 
@@ -245,7 +244,7 @@ module _ (e b n s : ℕ) (keys table buffers : List ℕ) (i t k : ℕ) (asked : 
   all-slots = mul-le-mul (asked .limits .s-most) (asked .limits .b-most)
 
   slots-below : i * b + entryIn σ i .held ≤ s * b
-  slots-below = slot-inside b (asked .inside) (asked .sound .held-below)
+  slots-below = omega (arith, mul-le-mul-right b (asked .inside), asked .sound .held-below)
 
   holds : Holds b (s - 1 + t) table buffers
   holds = room-holds b (s - 1 + t) table buffers (omega (arith, asked .limits)) (asked .segment-room)

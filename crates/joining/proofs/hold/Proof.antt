@@ -1,7 +1,7 @@
 use borrow.Author.Needs.{needs}
-use Rattle.insert.proofs.Writing.{hold-cases}
-use Rattle.insert.proofs.hold.Statement.{statement}
-use Rattle.insert.proofs.hold.Tie as tie
+use Rattle.joining.proofs.Writing.{hold-cases}
+use Rattle.joining.proofs.hold.Statement.{statement}
+use Rattle.joining.proofs.hold.Tie as tie
 
 pub hold-spec : {M : Type 1} → statement M
 hold-spec =

@@ -1,7 +1,7 @@
 use borrow.Author.Needs.{needs}
-use Rattle.insert.proofs.Writing.{rows-cases}
-use Rattle.insert.proofs.raise_later.Statement.{statement}
-use Rattle.insert.proofs.raise_later.Tie as tie
+use Rattle.joining.proofs.Writing.{rows-cases}
+use Rattle.joining.proofs.raise_later.Statement.{statement}
+use Rattle.joining.proofs.raise_later.Tie as tie
 
 pub raise-later-spec : {M : Type 1} → statement M
 raise-later-spec =

@@ -1,7 +1,7 @@
 use borrow.Author.Needs.{needs}
-use Rattle.insert.proofs.Writing.{keys-cases}
-use Rattle.insert.proofs.join_keys.Statement.{statement}
-use Rattle.insert.proofs.join_keys.Tie as tie
+use Rattle.joining.proofs.Writing.{keys-cases}
+use Rattle.joining.proofs.join_keys.Statement.{statement}
+use Rattle.joining.proofs.join_keys.Tie as tie
 
 pub join-keys-spec : {M : Type 1} → statement M
 join-keys-spec =

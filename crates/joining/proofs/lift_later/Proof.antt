@@ -1,7 +1,7 @@
 use borrow.Author.Needs.{needs}
-use Rattle.insert.proofs.Writing.{slots-cases}
-use Rattle.insert.proofs.lift_later.Statement.{statement}
-use Rattle.insert.proofs.lift_later.Tie as tie
+use Rattle.joining.proofs.Writing.{slots-cases}
+use Rattle.joining.proofs.lift_later.Statement.{statement}
+use Rattle.joining.proofs.lift_later.Tie as tie
 
 pub lift-later-spec : {M : Type 1} → statement M
 lift-later-spec =

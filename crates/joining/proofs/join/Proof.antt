@@ -1,7 +1,7 @@
 use borrow.Author.Needs.{needs}
-use Rattle.insert.proofs.Writing.{join-cases, join-keys-done, join-table-done, join-slots-done}
-use Rattle.insert.proofs.join.Statement.{statement}
-use Rattle.insert.proofs.join.Tie as tie
+use Rattle.joining.proofs.Writing.{join-cases, join-keys-done, join-table-done, join-slots-done}
+use Rattle.joining.proofs.join.Statement.{statement}
+use Rattle.joining.proofs.join.Tie as tie
 
 pub join-spec : {M : Type 1} → statement M
 join-spec =
