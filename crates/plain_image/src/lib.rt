@@ -1,4 +1,4 @@
-// The stored form, written and read byte by byte.
+// The stored form, from document 01 alone: written and read byte by byte.
 use plain::cells::NONE;
 use plain::cells::answer;
 use plain::cells::at;

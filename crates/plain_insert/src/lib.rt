@@ -1,4 +1,4 @@
-// Insert: everything is made anew in lent working slices, then copied back.
+// Insert, from document 01 alone: everything is made anew in lent working slices, then copied back.
 use plain::cells::NONE;
 use plain::cells::above;
 use plain::cells::answer;
@@ -12,9 +12,6 @@ use plain::cells::refused;
 use plain::cells::rising;
 use plain::cells::size;
 use plain::cells::sum;
-use plain::looking::finds;
-use plain::merge::merge;
-use plain::quadratic::cut;
 use plain::segment::base;
 use plain::segment::choose;
 use plain::segment::damaged;
@@ -27,6 +24,9 @@ use plain::segment::rise;
 use plain::segment::run;
 use plain::segment::segment_room;
 use plain::segment::slot;
+use plain_build::cut;
+use plain_reads::looking::finds;
+use plain_reads::merge::merge;
 
 // The used slots of segment i, in the list from its start.
 fn used_list(b: u64, buffers: &[u64], i: u64, used: u64, list: &mut [u64]) {

@@ -5,7 +5,7 @@ use draws::store::Shape;
 pub fn build(plain: bool, x: Shape, keys: &[u64], table: &mut [u64], slots: &[u64]) -> [u64; 8] {
     if plain {
         let mut entries = [0u64; 1700];
-        return plain::quadratic::build(x.e, x.b, x.n, keys, table, slots, &mut entries);
+        return plain_build::build(x.e, x.b, x.n, keys, table, slots, &mut entries);
     }
     let mut a = [0u64; 8];
     readstore::readstore_build(keys, table, slots, x.e, x.b, x.n, &mut a);
@@ -16,7 +16,7 @@ pub fn build(plain: bool, x: Shape, keys: &[u64], table: &mut [u64], slots: &[u6
 pub fn check(plain: bool, x: Shape, keys: &[u64], table: &[u64], slots: &[u64]) -> [u64; 8] {
     if plain {
         let mut list = [0u64; 1024];
-        return plain::merge::check(x.e, x.b, x.n, x.s, keys, table, slots, &mut list);
+        return plain_reads::merge::check(x.e, x.b, x.n, x.s, keys, table, slots, &mut list);
     }
     let mut a = [0u64; 8];
     readstore::readstore_check(keys, table, slots, x.e, x.b, x.n, x.s, &mut a);
@@ -33,7 +33,7 @@ pub fn lookup(
     key: u64,
 ) -> [u64; 8] {
     if plain {
-        return plain::looking::lookup(x.e, x.b, x.n, x.s, keys, table, slots, key);
+        return plain_reads::looking::lookup(x.e, x.b, x.n, x.s, keys, table, slots, key);
     }
     let mut a = [0u64; 8];
     readstore::readstore_lookup(keys, table, slots, x.e, x.b, x.n, x.s, key, &mut a);
@@ -53,7 +53,7 @@ pub fn range(
 ) -> [u64; 8] {
     if plain {
         let mut list = [0u64; 1024];
-        return plain::merge::range(
+        return plain_reads::merge::range(
             x.e,
             x.b,
             x.n,
