@@ -1,23 +1,10 @@
-// The slices lent to a call, in the lengths of the shape and of the call.
-use crate::call::Asked;
-use crate::each;
+// The store's side: its exports called with the slices lent, in the lengths of the shape and of the call.
+use asked::call::Asked;
+use asked::cap::cap;
 use draws::store::Shape;
-ghost use Prim.Native.Nat.{_≤_};
-
-// n, or what there is if that is less.
-fn cap(n: u64, most: usize) -> usize
-    ensures { λ r. ⌜ r ≤ most ⌝ }
-{
-    let p = n as usize;
-    if p < most {
-        return p;
-    }
-    most
-}
 
 // The calls that change no cell of the store.
 fn read_only(
-    plain: bool,
     c: Asked,
     x: Shape,
     keys: &[u64],
@@ -26,18 +13,41 @@ fn read_only(
     out: &mut [u64],
     image: &mut [u8],
 ) -> [u64; 8] {
+    let mut a = [0u64; 8];
     let kind = c.kind;
     match kind {
-        1 => each::check(plain, x, keys, table, slots),
-        2 => each::lookup(plain, x, keys, table, slots, c.key),
-        3 => each::range(plain, x, keys, table, slots, c.key, c.high, out),
-        _ => each::write(plain, x, keys, table, slots, image),
+        1 => readstore::readstore_check(keys, table, slots, x.e, x.b, x.n, x.s, &mut a),
+        2 => readstore::readstore_lookup(keys, table, slots, x.e, x.b, x.n, x.s, c.key, &mut a),
+        3 => readstore::readstore_range(
+            keys,
+            table,
+            slots,
+            x.e,
+            x.b,
+            x.n,
+            x.s,
+            c.key,
+            c.high,
+            out,
+            &mut a,
+        ),
+        _ => readstore::readstore_image_write(
+            keys,
+            table,
+            slots,
+            x.e,
+            x.b,
+            x.n,
+            x.s,
+            image,
+            &mut a,
+        ),
     }
+    a
 }
 
 // Any call, of slices as they are lent.
 fn make(
-    plain: bool,
     c: Asked,
     x: Shape,
     keys: &mut [u64],
@@ -46,18 +56,21 @@ fn make(
     out: &mut [u64],
     image: &mut [u8],
 ) -> [u64; 8] {
+    let mut a = [0u64; 8];
     let kind = c.kind;
     match kind {
-        0 => each::build(plain, x, keys, table, slots),
-        4 => each::insert(plain, x, keys, table, slots, c.key),
-        6 => each::read(plain, image, keys, table, slots),
-        _ => read_only(plain, c, x, keys, table, slots, out, image),
+        0 => readstore::readstore_build(keys, table, slots, x.e, x.b, x.n, &mut a),
+        4 => readstore::readstore_insert(keys, table, slots, x.e, x.b, x.n, x.s, c.key, &mut a),
+        6 => readstore::readstore_image_read(image, keys, table, slots, &mut a),
+        _ => {
+            a = read_only(c, x, keys, table, slots, out, image);
+        }
     }
+    a
 }
 
 // Any call, of the parts that are lent: of the store by the shape, of what is beside it by the call.
 pub fn lend(
-    plain: bool,
     c: Asked,
     x: Shape,
     keys: &mut [u64],
@@ -72,7 +85,6 @@ pub fn lend(
     let o = cap(c.room, out.len());
     let i = cap(c.room, image.len());
     make(
-        plain,
         c,
         x,
         &mut keys[..k],

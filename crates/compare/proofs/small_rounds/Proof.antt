@@ -16,7 +16,8 @@ small-rounds-spec =
     Inv-loop
     μ-loop
     (λ c. search needs)  -- loop-holds
-    (λ c κs. search needs)  -- small-round-requires
+    (λ c κs. search needs)  -- draw-small-requires
+    (λ c κs. search needs)  -- calls-requires
     (λ c. search needs)  -- add-round
     (λ c. search needs)  -- loop-less
     (λ c. search needs)  -- loop-again

@@ -1,16 +1,16 @@
 use borrow.Author.Needs.{needs}
 use Prim.Native.Nat.{_≤_, _-_}
-use Rattle.compare.proofs.rounds.hurt_builds.Statement.{statement}
-use Rattle.compare.proofs.rounds.hurt_builds.Tie as tie
+use Rattle.key_rounds.proofs.lookups.Statement.{statement}
+use Rattle.key_rounds.proofs.lookups.Tie as tie
 
 abbrev Inv-loop : tie.InvT-loop
-Inv-loop round tally₀ x₀ i₀ tally x i = 0 ≤ i
+Inv-loop round x tally₀ count i₀ tally i = 0 ≤ i
 
 abbrev μ-loop : tie.MeasureT-loop
-μ-loop round tally₀ x₀ i₀ tally x i = 4 - i
+μ-loop round x tally₀ count i₀ tally i = count - i
 
-pub hurt-builds-spec : {M : Type 1} → statement M
-hurt-builds-spec =
+pub lookups-spec : {M : Type 1} → statement M
+lookups-spec =
     tie.close
     (tie.spec
     Inv-loop
@@ -18,11 +18,10 @@ hurt-builds-spec =
     (λ c. search needs)  -- loop-holds
     (λ c κs. search needs)  -- product-requires
     (λ c κs. search needs)  -- sum-requires
+    (λ c κs. search needs)  -- some-key-requires
+    (λ c κs. search needs)  -- sum-requires-2
     (λ c κs. search needs)  -- bent-requires
     (λ c κs. search needs)  -- compare-requires
-    (λ c κs. search needs)  -- sum-requires-2
-    (λ c κs. search needs)  -- sum-requires-3
-    (λ c κs. search needs)  -- hurt-part-requires
     (λ c. search needs)  -- add-i
     (λ c. search needs)  -- loop-less
     (λ c. search needs)  -- loop-again

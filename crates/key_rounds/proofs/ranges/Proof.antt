@@ -1,7 +1,7 @@
 use borrow.Author.Needs.{needs}
 use Prim.Native.Nat.{_≤_, _-_}
-use Rattle.compare.proofs.rounds.ranges.Statement.{statement}
-use Rattle.compare.proofs.rounds.ranges.Tie as tie
+use Rattle.key_rounds.proofs.ranges.Statement.{statement}
+use Rattle.key_rounds.proofs.ranges.Tie as tie
 
 abbrev Inv-loop : tie.InvT-loop
 Inv-loop round x tally₀ count i₀ tally i = 0 ≤ i

@@ -1,7 +1,7 @@
 use borrow.Author.Needs.{needs}
 use Prim.Native.Nat.{_≤_, _-_}
-use Rattle.compare.proofs.rounds.hurt_reads.Statement.{statement}
-use Rattle.compare.proofs.rounds.hurt_reads.Tie as tie
+use Rattle.whole_rounds.proofs.hurt_reads.Statement.{statement}
+use Rattle.whole_rounds.proofs.hurt_reads.Tie as tie
 
 abbrev Inv-loop : tie.InvT-loop
 Inv-loop round image₀ size tally₀ empty i₀ image tally i = 0 ≤ i
