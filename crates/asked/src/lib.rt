@@ -1,4 +1,3 @@
-// What is asked of a store, how much of each slice is lent to it, and what one side came to.
+// What is asked of a store, and what one side came to.
 pub mod call;
-pub mod cap;
 pub mod side;

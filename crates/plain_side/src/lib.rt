@@ -1,33 +1,44 @@
-// The plain side of a call: the plain implementation, with the room that it works in, called on a copy of the store. It names nothing of the store's
-// own crates, so that it can be proved beside them.
+// The plain side of a call: the plain implementation, with the room that it works in. It names nothing of the store's own crates, so that it can be
+// proved beside them.
 use asked::call::Asked;
-use asked::side::Side;
-use draws::store::Store;
+use draws::store::Shape;
 
-mod lend;
 mod rooms;
 
-// The call, of a copy of the store.
-pub fn on_plain(c: Asked, x: Store, image: &mut [u8]) -> Side {
-    let mut keys = x.keys;
-    let mut table = x.table;
-    let mut slots = x.slots;
-    let mut out = [7u64; 512];
-    let answer = lend::lend(
-        c,
-        x.shape,
-        &mut keys,
-        &mut table,
-        &mut slots,
-        &mut out,
-        image,
-    );
-    let shape = x.shape;
-    let store = Store {
-        shape,
-        keys,
-        table,
-        slots,
-    };
-    Side { answer, store, out }
+// The calls that change no cell of the store.
+fn read_only(
+    c: Asked,
+    x: Shape,
+    keys: &[u64],
+    table: &[u64],
+    slots: &[u64],
+    out: &mut [u64],
+    image: &mut [u8],
+) -> [u64; 8] {
+    let kind = c.kind;
+    match kind {
+        1 => rooms::check(x, keys, table, slots),
+        2 => plain_reads::looking::lookup(x.e, x.b, x.n, x.s, keys, table, slots, c.key),
+        3 => rooms::range(x, keys, table, slots, c.key, c.high, out),
+        _ => plain_image::write(x.e, x.b, x.n, x.s, keys, table, slots, image),
+    }
+}
+
+// Any call, of slices as they are lent.
+pub fn make(
+    c: Asked,
+    x: Shape,
+    keys: &mut [u64],
+    table: &mut [u64],
+    slots: &mut [u64],
+    out: &mut [u64],
+    image: &mut [u8],
+) -> [u64; 8] {
+    let kind = c.kind;
+    match kind {
+        0 => rooms::build(x, keys, table, slots),
+        4 => rooms::insert(x, keys, table, slots, c.key),
+        6 => plain_image::read(image, keys, table, slots),
+        _ => read_only(c, x, keys, table, slots, out, image),
+    }
 }

@@ -6,16 +6,16 @@ use asked::call::in_numbers;
 use asked::side::Side;
 use asked::side::same;
 use draws::store::Store;
-use plain_side::on_plain;
 use tally::report;
 
-// The call on the store's side, of a copy of the store.
-fn on_store(c: Asked, x: Store, image: &mut [u8]) -> Side {
+// The call on one side, of a copy of the store.
+fn on_side(plain: bool, c: Asked, x: Store, image: &mut [u8]) -> Side {
     let mut keys = x.keys;
     let mut table = x.table;
     let mut slots = x.slots;
     let mut out = [7u64; 512];
     let answer = lend(
+        plain,
         c,
         x.shape,
         &mut keys,
@@ -44,8 +44,8 @@ pub fn compare_both(
     tally: &mut [u64; 32],
 ) -> Side {
     let c = in_numbers(call);
-    let a = on_store(c, x, image);
-    let p = on_plain(c, x, image2);
+    let a = on_side(false, c, x, image);
+    let p = on_side(true, c, x, image2);
     let cells = same(a, p, image, image2);
     let answer = a.answer;
     let plain = p.answer;

@@ -1,9 +1,20 @@
-// The store's side: its exports called with the slices lent, in the lengths of the shape and of the call.
+// A call on one side, the store's or the plain one's, with the slices lent in the lengths of the shape and of the call. The store's side are its exports.
 use asked::call::Asked;
-use asked::cap::cap;
 use draws::store::Shape;
+ghost use Prim.Native.Nat.{_≤_};
 
-// The calls that change no cell of the store.
+// n, or what there is if that is less.
+fn cap(n: u64, most: usize) -> usize
+    ensures { λ r. ⌜ r ≤ most ⌝ }
+{
+    let p = n as usize;
+    if p < most {
+        return p;
+    }
+    most
+}
+
+// The store's calls that change no cell of it.
 fn read_only(
     c: Asked,
     x: Shape,
@@ -46,8 +57,8 @@ fn read_only(
     a
 }
 
-// Any call, of slices as they are lent.
-fn make(
+// Any call by the store, of slices as they are lent.
+fn by_store(
     c: Asked,
     x: Shape,
     keys: &mut [u64],
@@ -69,8 +80,26 @@ fn make(
     a
 }
 
+// Any call on either side.
+fn make(
+    plain: bool,
+    c: Asked,
+    x: Shape,
+    keys: &mut [u64],
+    table: &mut [u64],
+    slots: &mut [u64],
+    out: &mut [u64],
+    image: &mut [u8],
+) -> [u64; 8] {
+    if plain {
+        return plain_side::make(c, x, keys, table, slots, out, image);
+    }
+    by_store(c, x, keys, table, slots, out, image)
+}
+
 // Any call, of the parts that are lent: of the store by the shape, of what is beside it by the call.
 pub fn lend(
+    plain: bool,
     c: Asked,
     x: Shape,
     keys: &mut [u64],
@@ -85,6 +114,7 @@ pub fn lend(
     let o = cap(c.room, out.len());
     let i = cap(c.room, image.len());
     make(
+        plain,
         c,
         x,
         &mut keys[..k],

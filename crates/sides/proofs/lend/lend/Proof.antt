@@ -1,5 +1,5 @@
 use borrow.Author.Needs.{needs}
-use Rattle.asked.proofs.Laws.{part-length}
+use Rattle.sides.proofs.Laws.{part-length}
 use Rattle.sides.proofs.lend.lend.Statement.{statement}
 use Rattle.sides.proofs.lend.lend.Tie as tie
 
