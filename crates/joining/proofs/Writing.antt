@@ -27,7 +27,7 @@ use Rattle.cone.specs.Keys.{Cuttable}
 use Rattle.cone.proofs.Cover.{parted}
 use Rattle.cutting.specs.Rows.{rowsOf, Known}
 use Rattle.moves.specs.Shift.{shiftUp}
-use Rattle.moves.specs.Join.{Puttable}
+use Rattle.placing.specs.Join.{Puttable}
 use Rattle.moves.specs.Tail.{raised, raisedUp, Tail}
 use Rattle.moves.specs.Slots.{heldOf, laid, lifted, Liftable}
 use Rattle.moves.proofs.Shift.{take-shift, drop-shift}

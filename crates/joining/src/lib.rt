@@ -18,7 +18,7 @@ pub fn hold(b: usize, table: &mut [u64], buffers: &mut [u64], i: usize, slot: us
     let held = table[cell];
     let at = i * b;
     let to = at + (held as usize + 1);
-    moves::put(&mut buffers[at..to], slot, k);
+    placing::put(&mut buffers[at..to], slot, k);
     table[cell] = held + 1;
 }
 
@@ -32,7 +32,7 @@ fn join_keys(b: usize, n: usize, x: Entry, keys: &mut [u64], buffers: &[u64], i:
     let at = i * b;
     let end = at + x.held;
     moves::shift_up(keys, base, n - base, b);
-    moves::merge_down(&mut keys[base..to], &buffers[at..end], k);
+    placing::merge_down(&mut keys[base..to], &buffers[at..end], k);
 }
 
 // The used slots of the segments after i go up by t - 1 segments.

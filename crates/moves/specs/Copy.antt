@@ -1,11 +1,9 @@
--- Cells copied one after the other, from one slice to another or further down in their own.
+-- Cells copied one after the other, from one slice to another.
 use mathlib.Core.Path.{_≡_}
-use mathlib.Core.List.{List, [], _∷_}
-use Prim.Native.Nat.{ℕ, suc, _+_, _-_, _≤_}
-use lib.Dec.{leb}
-use lib.ListN.{length, drop}
+use mathlib.Core.List.{List}
+use Prim.Native.Nat.{ℕ, _+_, _≤_}
+use lib.ListN.{length}
 use lib.Seq.{paste}
-use Rattle.lists.specs.Tests.{pick}
 
 -- from a on there are n cells
 pub record Stretch (xs : List ℕ) (a n : ℕ) : Type 0 where
@@ -17,21 +15,3 @@ pub record Pasting (xs : List ℕ) (at : ℕ) (ys s : List ℕ) (j : ℕ) : Type
   pub few : j ≤ length ys
   pub same : length s ≡ length xs
   pub is : s ≡ paste xs at ys j
-
--- how many at the front are not above y
-unfoldable pub upTo : ℕ → List ℕ → ℕ
-upTo y [] = 0
-upTo y (x ∷ xs) = pick (leb x y) (suc (upTo y xs)) 0
-
--- the cells from a on go down, to w
-pub record Lowerable (xs : List ℕ) (a w : ℕ) : Type 0 where
-  pub down : w ≤ a
-  pub inside : a ≤ length xs
-
--- the loop: all from a up to i were not above y, and stand from w up to o as well
-pub record Lowering (xs : List ℕ) (a w y : ℕ) (part : List ℕ) (i o : ℕ) : Type 0 where
-  pub asked : Lowerable xs a w
-  pub from : a ≤ i
-  pub onto : o ≡ w + (i - a)
-  pub copied : Pasting xs w (drop a xs) part (i - a)
-  pub counted : upTo y (drop a xs) ≡ (i - a) + upTo y (drop i xs)

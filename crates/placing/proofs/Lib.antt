@@ -1,0 +1,2 @@
+pub mod Lower
+pub mod Join
