@@ -17,15 +17,9 @@ use Rattle.cone.specs.declared.Step.the-variants.{Joined, Apart}
 use Rattle.cone.specs.Rule.{far, joins, Segment, segmentOf, cutFrom, cut}
 use Rattle.cone.specs.Step.{Ready, startOf, grown, lets, stepOf}
 use Rattle.cone.specs.Keys.{Cuttable}
+use Rattle.cone.specs.Walk.{Open, Walk}
 use Rattle.cone.proofs.Rules.{cut-joined, cut-apart, cut-end, cut-start}
-use Rattle.cone.proofs.Laws.{Describes, started, decides, joined, Fit, fit-start, fit-grown, step-joined, step-apart}
-
--- the cone stands for the keys of an open segment, from i up to j
-pub record Open (e : ℕ) (ks : List ℕ) (i j : ℕ) (c : Cone) : Type 0 where
-  pub inside : j ≤ length ks
-  pub counted : i + c .count ≡ j
-  pub describes : Describes e ks i c
-  pub fit : Fit e c
+use Rattle.cone.proofs.Laws.{started, decides, joined, fit-start, fit-grown, step-joined, step-apart}
 
 -- the key that comes next: a key, above the first of the open segment
 pub record Next (ks : List ℕ) (j : ℕ) (c : Cone) (key : ℕ) : Type 0 where
@@ -100,11 +94,6 @@ module _ {e : ℕ} {ks : List ℕ} {i j : ℕ} {c : Cone} (w : Open e ks i j c) 
     open-apart is q = sym joins-is ∙ step-apart e c key is q
 
 -- ---- counting segments: n are closed, one is open, and the rest of the cut is the cut from there
-
-pub record Walk (e : ℕ) (ks : List ℕ) (n i j : ℕ) (c : Cone) : Type 0 where
-  pub segment : Open e ks i j c
-  pub closed : n ≤ i
-  pub rest : (r : ℕ) → j + r ≡ length ks → drop n (cut e ks) ≡ cutFrom e ks i (c .count) r
 
 pub walk-start : (e : ℕ) (ks : List ℕ) {key : ℕ} → 0 < length ks → key ≡ getD ks 0 0 → Walk e ks 0 0 1 (startOf e key)
 walk-start e ks some is = record { segment = open-start e ks 0 some is; closed = omega arith; rest = λ r q. cut-start e ks r q }

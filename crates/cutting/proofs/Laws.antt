@@ -19,7 +19,8 @@ use Rattle.cone.specs.declared.Step.the-variants.{Joined, Apart}
 use Rattle.cone.specs.Rule.{Segment, segmentOf, cut}
 use Rattle.cone.specs.Step.{Ready, startOf, stepOf}
 use Rattle.cone.specs.Keys.{Cuttable}
-use Rattle.cone.proofs.Walk.{Open, Next, open-start, next-key, open-ready, open-joins, open-count, open-joined, open-apart}
+use Rattle.cone.specs.Walk.{Open}
+use Rattle.cone.proofs.Walk.{Next, open-start, next-key, open-ready, open-joins, open-count, open-joined, open-apart}
 use Rattle.cutting.specs.Rows.{rowOf, rowsOf, Room, Writable, Known}
 use Rattle.cutting.specs.Ends.{sizeFrom, sizeOf, cutAt, Startable}
 use Rattle.cutting.proofs.Rows.{Filled, filled-none, filled-all, fill}
