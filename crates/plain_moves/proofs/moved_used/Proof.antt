@@ -2,8 +2,8 @@ use borrow.Author.Needs.{needs}
 use mathlib.Core.Path.{_≡_}
 use lib.ListN.{length}
 use Prim.Native.Nat.{_-_}
-use Rattle.plain_insert.proofs.moved_used.Statement.{statement}
-use Rattle.plain_insert.proofs.moved_used.Tie as tie
+use Rattle.plain_moves.proofs.moved_used.Statement.{statement}
+use Rattle.plain_moves.proofs.moved_used.Tie as tie
 
 abbrev Inv-loop : tie.InvT-loop
 Inv-loop buffers b j d used list₀ x₀ list x = length list ≡ length list₀

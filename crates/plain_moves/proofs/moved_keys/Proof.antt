@@ -2,8 +2,8 @@ use borrow.Author.Needs.{needs}
 use mathlib.Core.Path.{_≡_}
 use lib.ListN.{length}
 use Prim.Native.Nat.{_-_}
-use Rattle.plain_insert.proofs.moved_keys.Statement.{statement}
-use Rattle.plain_insert.proofs.moved_keys.Tie as tie
+use Rattle.plain_moves.proofs.moved_keys.Statement.{statement}
+use Rattle.plain_moves.proofs.moved_keys.Tie as tie
 
 abbrev Inv-loop : tie.InvT-loop
 Inv-loop keys b n to list₀ p₀ list p = length list ≡ length list₀
