@@ -1,4 +1,5 @@
 // What is asked of a store.
+ghost use Prim.Native.Nat.{_≤_};
 
 // `room` is how much is lent to be written, `length` how much of an image is to be read.
 pub enum Call {
@@ -40,4 +41,15 @@ pub fn in_numbers(c: Call) -> Asked {
         Call::Write { room } => ask(5, 0, 0, room),
         Call::Read { length } => ask(6, 0, 0, length),
     }
+}
+
+// n, or what there is if that is less.
+pub fn cap(n: u64, most: usize) -> usize
+    ensures { λ r. ⌜ r ≤ most ⌝ }
+{
+    let p = n as usize;
+    if p < most {
+        return p;
+    }
+    most
 }

@@ -1,45 +1,57 @@
-// The store and the plain implementation compared: pseudo-random sequences of calls on both, sound and damaged. Every answer and every cell that a
-// call may write is compared. It prints how many calls of each kind there were and how many differ, and the first difference of a kind.
+// The store and the plain implementation compared: pseudo-random sequences of calls on both, sound and damaged. The store is asked through what C and
+// Rust call; both sides take the same numbers and slices and answer in the same eight numbers. Every answer and every cell that a call may write is
+// compared. It prints how many calls of each kind there were and how many differ, and the first difference of a kind.
 //
 // The sequences: on stores that were built and grow by inserts, then on the same with cells, counts and lengths gone wrong; and on small stores whose
 // numbers are all drawn.
+use both::both;
+use draws::faults::hurt;
+use draws::keys::draw_list;
 use draws::small::draw_small;
 use draws::store::Store;
-use key_rounds::grow;
-use key_rounds::hurt_turn;
-use plain::cells::product;
-use plain::cells::sum;
-use whole_rounds::all_writes;
-use whole_rounds::builds;
+use rounds::answer::after;
+use rounds::pass::Pass;
+use rounds::pass::cut;
+use rounds::pass::grow;
+use rounds::pass::wrong;
+use rounds::question::At;
+use rounds::question::calls;
+use rounds::question::next;
+
+mod both;
+mod lend;
 
 // How many lists are built, and how many small stores drawn.
 const BUILT: u64 = 1600;
 
 const SMALL: u64 = 15000;
 
-// Read, grown by `count` inserts, read again, and written.
-fn calls(round: u64, start: Store, tally: &mut [u64; 32], count: u64, later: u64) -> Store {
-    let x = grow(round, start, tally, count, later);
-    all_writes(round, x, tally);
-    x
-}
-
-// The store goes wrong more and more.
-fn hurt_calls(round: u64, start: Store, tally: &mut [u64; 32], count: u64) {
-    let mut x = start;
-    for i in 0..count {
-        let turn = sum(product(round, 64), i);
-        x = hurt_turn(turn, x, tally);
-        all_writes(turn, x, tally);
+// Every call of a pass over a store, made on both sides. The store as it is afterwards.
+fn run(p: Pass, start: Store, tally: &mut [u64; 32]) -> Store {
+    let mut image = [170u8; 6600];
+    let mut at = At {
+        store: start,
+        kept: 0,
+    };
+    for i in 0..calls(p) {
+        let q = next(p, i, at, &mut image);
+        let call = q.call;
+        let then = q.then;
+        let a = both(p.name, call, q.of, &mut image, tally);
+        at = after(p.name, then, at, a);
     }
+    at.store
 }
 
-// A list cut, grown, read, written, and then gone wrong.
+// A list cut; where it was, grown, and then three times gone wrong.
 fn built_round(round: u64, tally: &mut [u64; 32]) {
-    let x = builds(round, tally);
+    let mut x = run(cut(round), draw_list(round), tally);
     if 0 < x.shape.s {
-        let y = calls(round, x, tally, 60, 12);
-        hurt_calls(round, y, tally, 3);
+        x = run(grow(round, 60, 12), x, tally);
+        for turn in 0..3 {
+            let p = wrong(round, turn);
+            x = run(p, hurt(p.name, 20000, x), tally);
+        }
     }
 }
 
@@ -53,7 +65,7 @@ fn built_rounds(tally: &mut [u64; 32], count: u64) {
 // A round for each small store, whose numbers are all drawn, some of them as a sound store has them.
 fn small_rounds(tally: &mut [u64; 32], count: u64) {
     for round in 0..count {
-        calls(round, draw_small(round), tally, 6, 4);
+        run(grow(round, 6, 4), draw_small(round), tally);
     }
 }
 

@@ -16,8 +16,9 @@ small-rounds-spec =
     Inv-loop
     μ-loop
     (λ c. search needs)  -- loop-holds
+    (λ c κs. search needs)  -- grow-requires
     (λ c κs. search needs)  -- draw-small-requires
-    (λ c κs. search needs)  -- calls-requires
+    (λ c κs. search needs)  -- run-requires
     (λ c. search needs)  -- add-round
     (λ c. search needs)  -- loop-less
     (λ c. search needs)  -- loop-again

@@ -1,7 +1,7 @@
 use borrow.Author.Needs.{needs}
-use Rattle.sides.proofs.Laws.{part-length}
-use Rattle.sides.proofs.lend.lend.Statement.{statement}
-use Rattle.sides.proofs.lend.lend.Tie as tie
+use Rattle.compare.proofs.Laws.{part-length}
+use Rattle.compare.proofs.lend.lend.Statement.{statement}
+use Rattle.compare.proofs.lend.lend.Tie as tie
 
 pub lend-spec : {M : Type 1} → statement M
 lend-spec =

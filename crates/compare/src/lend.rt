@@ -1,18 +1,7 @@
 // A call on one side, the store's or the plain one's, with the slices lent in the lengths of the shape and of the call. The store's side are its exports.
 use asked::call::Asked;
+use asked::call::cap;
 use draws::store::Shape;
-ghost use Prim.Native.Nat.{_≤_};
-
-// n, or what there is if that is less.
-fn cap(n: u64, most: usize) -> usize
-    ensures { λ r. ⌜ r ≤ most ⌝ }
-{
-    let p = n as usize;
-    if p < most {
-        return p;
-    }
-    most
-}
 
 // The store's calls that change no cell of it.
 fn read_only(
@@ -57,30 +46,7 @@ fn read_only(
     a
 }
 
-// Any call by the store, of slices as they are lent.
-fn by_store(
-    c: Asked,
-    x: Shape,
-    keys: &mut [u64],
-    table: &mut [u64],
-    slots: &mut [u64],
-    out: &mut [u64],
-    image: &mut [u8],
-) -> [u64; 8] {
-    let mut a = [0u64; 8];
-    let kind = c.kind;
-    match kind {
-        0 => readstore::readstore_build(keys, table, slots, x.e, x.b, x.n, &mut a),
-        4 => readstore::readstore_insert(keys, table, slots, x.e, x.b, x.n, x.s, c.key, &mut a),
-        6 => readstore::readstore_image_read(image, keys, table, slots, &mut a),
-        _ => {
-            a = read_only(c, x, keys, table, slots, out, image);
-        }
-    }
-    a
-}
-
-// Any call on either side.
+// Any call, by the plain implementation or by the store, of slices as they are lent.
 fn make(
     plain: bool,
     c: Asked,
@@ -94,7 +60,17 @@ fn make(
     if plain {
         return plain_side::make(c, x, keys, table, slots, out, image);
     }
-    by_store(c, x, keys, table, slots, out, image)
+    let mut a = [0u64; 8];
+    let kind = c.kind;
+    match kind {
+        0 => readstore::readstore_build(keys, table, slots, x.e, x.b, x.n, &mut a),
+        4 => readstore::readstore_insert(keys, table, slots, x.e, x.b, x.n, x.s, c.key, &mut a),
+        6 => readstore::readstore_image_read(image, keys, table, slots, &mut a),
+        _ => {
+            a = read_only(c, x, keys, table, slots, out, image);
+        }
+    }
+    a
 }
 
 // Any call, of the parts that are lent: of the store by the shape, of what is beside it by the call.

@@ -1,4 +1,4 @@
-// A call made on both sides and reported.
+// A call made on both sides, compared and reported.
 use crate::lend::lend;
 use asked::call::Asked;
 use asked::call::Call;
@@ -9,7 +9,7 @@ use draws::store::Store;
 use tally::report;
 
 // The call on one side, of a copy of the store.
-fn on_side(plain: bool, c: Asked, x: Store, image: &mut [u8]) -> Side {
+fn on_side(plain: bool, c: Asked, x: Store, image: &mut [u8; 6600]) -> Side {
     let mut keys = x.keys;
     let mut table = x.table;
     let mut slots = x.slots;
@@ -34,19 +34,19 @@ fn on_side(plain: bool, c: Asked, x: Store, image: &mut [u8]) -> Side {
     Side { answer, store, out }
 }
 
-// The call on both. `image` is the store's side's, and `image2` the plain side's copy of it. What the store's side came to.
-pub fn compare_both(
+// The call on both; the plain side has a copy of the image. What the store's side came to.
+pub fn both(
     round: u64,
     call: Call,
     x: Store,
-    image: &mut [u8],
-    image2: &mut [u8],
+    image: &mut [u8; 6600],
     tally: &mut [u64; 32],
 ) -> Side {
     let c = in_numbers(call);
+    let mut image2 = *image;
     let a = on_side(false, c, x, image);
-    let p = on_side(true, c, x, image2);
-    let cells = same(a, p, image, image2);
+    let p = on_side(true, c, x, &mut image2);
+    let cells = same(c, a, p, image, &image2);
     let answer = a.answer;
     let plain = p.answer;
     report(tally, c.kind, round, answer, plain, cells);
