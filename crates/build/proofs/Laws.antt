@@ -23,7 +23,7 @@ use Rattle.cone.proofs.Cover.{few}
 use Rattle.cutting.specs.Rows.{Writable}
 use Rattle.build.specs.declared.Judged.{Judged}
 use Rattle.build.specs.declared.Judged.the-variants.{Clear, Faulty}
-use Rattle.build.specs.declared.Built.the-variants.{Made, Refused}
+use Rattle.answers.specs.declared.Built.the-variants.{Made, Refused}
 use Rattle.build.specs.Build.{takesOf, Takes, faultOf, wrongOf, roomedOf, foundOf, judgedOf, answerBy, builtOf, Held, HeldAt, Roomable}
 use Rattle.build.proofs.Faults.{fault-lowest, all-good, good-cuttable}
 

@@ -18,8 +18,8 @@ use Rattle.cone.specs.Keys.{Cuttable}
 use Rattle.cutting.specs.Rows.{rowsOf}
 use Rattle.build.specs.declared.Judged.{Judged}
 use Rattle.build.specs.declared.Judged.the-variants.{Clear, Faulty}
-use Rattle.build.specs.declared.Built.{Built}
-use Rattle.build.specs.declared.Built.the-variants.{Made, Refused}
+use Rattle.answers.specs.declared.Built.{Built}
+use Rattle.answers.specs.declared.Built.the-variants.{Made, Refused}
 
 -- 1: "e, B, n or s outside its limits, or n .. above the slice's length (build has no s yet)"
 unfoldable pub takesOf : ℕ → ℕ → ℕ → List ℕ → Bool

@@ -1,4 +1,5 @@
 // Build: the keys given are judged and cut, and the segments' entries written from the table's start. What it refuses it leaves as it was.
+use answers::Built;
 use scan::Found;
 use terms::Pos;
 use terms::Refusal;
@@ -10,12 +11,6 @@ ghost use Rattle.table.specs.Limits.{segmentRoom};
 ghost use Rattle.cone.specs.Rule.{cut};
 ghost use Rattle.build.specs.Build.{goodOf, faultOf, wrongOf, judgedOf, builtOf, tableBy, takesOf, Held, HeldAt, Roomable};
 ghost use Rattle.build.specs.Fronts.{FourHeld, fourOf, Front, GoodFront};
-
-// The number of segments, or why there are none.
-pub enum Built {
-    Made(usize),
-    Refused(Refusal),
-}
 
 // Whether the keys can be cut into the table, or why not.
 pub enum Judged {

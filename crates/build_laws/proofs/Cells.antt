@@ -13,7 +13,7 @@ use Rattle.table.proofs.Limits.{Holds, room-holds}
 use Rattle.cone.specs.Rule.{Segment, cut}
 use Rattle.cutting.specs.Rows.{rowOf, rowsOf}
 use Rattle.cutting.proofs.Rows.{rows-length}
-use Rattle.build.specs.declared.Built.the-variants.{Made, Refused}
+use Rattle.answers.specs.declared.Built.the-variants.{Made, Refused}
 use Rattle.build.specs.Build.{builtOf, tableBy}
 use Rattle.build_laws.specs.Builds.{Accepted}
 use Rattle.build_laws.specs.Leaves.{Entered, nowhere, Leaves}

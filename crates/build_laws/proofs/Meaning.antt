@@ -15,8 +15,8 @@ use Rattle.scan.specs.declared.Found.{Found}
 use Rattle.scan.specs.declared.Found.the-variants.{At, Nothing}
 use Rattle.table.specs.Limits.{segmentRoom}
 use Rattle.cone.specs.Rule.{cut}
-use Rattle.build.specs.declared.Built.{Built}
-use Rattle.build.specs.declared.Built.the-variants.{Made, Refused}
+use Rattle.answers.specs.declared.Built.{Built}
+use Rattle.answers.specs.declared.Built.the-variants.{Made, Refused}
 use Rattle.build.specs.Build.{takesOf, Takes, Good, faultOf, wrongOf, builtOf}
 use Rattle.build.proofs.Faults.{all-good, lower-good, fault-none, fault-at, fault-not-good, fault-lowest}
 use Rattle.build.proofs.Laws.{takes-true, true-takes, wrong-rising, wrong-large, judge-limits, judge-wrong, judge-cramped, judge-clear, build-faulty, build-made}

@@ -8,8 +8,8 @@ use Rattle.terms.specs.Limits.{keyLimit}
 use Rattle.terms.specs.declared.Refusal.the-variants.{Limits, LargeKey, NotRising, SegmentRoom}
 use Rattle.table.specs.Limits.{segmentRoom}
 use Rattle.cone.specs.Rule.{cut}
-use Rattle.build.specs.declared.Built.{Built}
-use Rattle.build.specs.declared.Built.the-variants.{Made, Refused}
+use Rattle.answers.specs.declared.Built.{Built}
+use Rattle.answers.specs.declared.Built.the-variants.{Made, Refused}
 use Rattle.build.specs.Build.{Takes, Good}
 
 -- p is the lowest faulty position: the numbers are within their limits, and every key before p is a key above the one before it

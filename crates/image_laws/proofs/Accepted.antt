@@ -14,7 +14,7 @@ use Rattle.table.specs.Entries.{entryIn, runIn, usedIn}
 use Rattle.table.specs.Damaged.{Sound}
 use Rattle.line.specs.Meaning.{Near}
 use Rattle.judge.specs.Rules.{Rules, Accepted}
-use Rattle.image_write.specs.declared.Written.the-variants.{Bytes}
+use Rattle.answers.specs.declared.Written.the-variants.{Bytes}
 use Rattle.image_write.specs.Writing.{writeOf, outBy}
 use Rattle.image_laws.specs.Same.{Same}
 use Rattle.image_laws.specs.Round.{storeRead}

@@ -5,10 +5,10 @@ use mathlib.Core.Path.{_≡_, sym, _∙_}
 use contract.Lifetimes.{Lfts}
 use denote.Ref.{now}
 use Rattle.terms.specs.declared.Refusal.{Refusal}
-use Rattle.image_read.specs.declared.Loaded.{Loaded}
-use Rattle.image_read.specs.declared.Loaded.the-variants.{Refused as Unread}
-use Rattle.image_write.specs.declared.Written.{Written}
-use Rattle.image_write.specs.declared.Written.the-variants.{Refused as Unwritten}
+use Rattle.answers.specs.declared.Loaded.{Loaded}
+use Rattle.answers.specs.declared.Loaded.the-variants.{Refused as Unread}
+use Rattle.answers.specs.declared.Written.{Written}
+use Rattle.answers.specs.declared.Written.the-variants.{Refused as Unwritten}
 use Rattle.image_read.proofs.read_image.Reads as read
 use Rattle.image_write.proofs.write_image.Reads as write
 

@@ -21,8 +21,8 @@ use Rattle.image_judge.specs.Judging.{answerOf, headedOf, judgedOf}
 use Rattle.image_judge.specs.declared.Judged.{Judged}
 use Rattle.image_judge.specs.declared.Judged.the-variants.{Well, Refused as Unwell}
 use Rattle.image_read.specs.Loading.{keysHeld, segmentsHeld, roomedOf, afterJudged, loadOf}
-use Rattle.image_read.specs.declared.Loaded.{Loaded}
-use Rattle.image_read.specs.declared.Loaded.the-variants.{Store, Refused}
+use Rattle.answers.specs.declared.Loaded.{Loaded}
+use Rattle.answers.specs.declared.Loaded.the-variants.{Store, Refused}
 use Rattle.image_laws.specs.Reading.{Head, eIn, bIn, nIn, sIn, Headed, Formed, Faulty, Answers, taken, refused-10-head, refused-1, refused-10, refused-6, refused-7}
 
 -- ---- what the judging pass says, by what stands

@@ -31,11 +31,11 @@ use Rattle.records.proofs.Meaning.{rest-is}
 use Rattle.records.proofs.First.{first-proper}
 use Rattle.records.proofs.Filled.{FillRoom, filled-image, slots-length, slots-kept, firsts-length, rows-length}
 use Rattle.image_read.specs.Loading.{loadOf}
-use Rattle.image_read.specs.declared.Loaded.the-variants.{Store as Read}
+use Rattle.answers.specs.declared.Loaded.the-variants.{Store as Read}
 use Rattle.image_read.proofs.Told.{told-well}
 use Rattle.image_read.proofs.Laws.{Taken, taken}
 use Rattle.image_write.specs.Writing.{lengthOf, writeOf, outBy}
-use Rattle.image_write.specs.declared.Written.the-variants.{Bytes as Wrote}
+use Rattle.answers.specs.declared.Written.the-variants.{Bytes as Wrote}
 use Rattle.image_write.proofs.Laws.{Told as Writes, written-told}
 use Rattle.image_laws.specs.Writing.{Entries, Run, bytesOf, written}
 use Rattle.image_laws.specs.Reading.{eIn, bIn, nIn, sIn, Formed}

@@ -16,10 +16,10 @@ use Rattle.records.specs.First.{first}
 use Rattle.records.specs.Stores.{singlesIn, partsIn, imageIn}
 use Rattle.image_judge.specs.Judging.{headedOf, judgedOf}
 use Rattle.image_read.specs.Loading.{keysHeld, segmentsHeld, roomedOf, loadOf}
-use Rattle.image_read.specs.declared.Loaded.{Loaded}
-use Rattle.image_read.specs.declared.Loaded.the-variants.{Store as Read, Refused as Unread}
+use Rattle.answers.specs.declared.Loaded.{Loaded}
+use Rattle.answers.specs.declared.Loaded.the-variants.{Store as Read, Refused as Unread}
 use Rattle.image_write.specs.Writing.{fitsAt, entryFits, runWrong, wrongOf, lengthOf, fittedOf, writeOf}
-use Rattle.image_write.specs.declared.Written.the-variants.{Bytes, Refused as Unwritten}
+use Rattle.answers.specs.declared.Written.the-variants.{Bytes, Refused as Unwritten}
 
 -- the printed store in slices of 16, 40 and 16 cells; what it does not use is 7
 abbrev keys : List ℕ

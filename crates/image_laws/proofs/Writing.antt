@@ -24,8 +24,8 @@ use Rattle.records.specs.First.{first}
 use Rattle.records.specs.Stores.{rowIn}
 use Rattle.records.proofs.Records.{fits-fit, fit-fits}
 use Rattle.image_write.specs.Writing.{fitsAt, cellsFit, entryTests, entryFits, runWrong, orElse, wrongOf, lengthOf, fittedOf, judgedOf, writeOf}
-use Rattle.image_write.specs.declared.Written.{Written}
-use Rattle.image_write.specs.declared.Written.the-variants.{Bytes, Refused}
+use Rattle.answers.specs.declared.Written.{Written}
+use Rattle.answers.specs.declared.Written.the-variants.{Bytes, Refused}
 use Rattle.image_laws.specs.Writing.{Writable, Entries, Run, bytesOf, Answers, written, refused-1, refused-9-entry, refused-9-run, refused-8}
 
 -- ---- the tests as facts

@@ -9,8 +9,8 @@ use Rattle.records.specs.Records.{Stands, kindOf}
 use Rattle.records.specs.Images.{layoutOf}
 use Rattle.records.specs.Meaning.{Rest}
 use Rattle.records.specs.First.{first}
-use Rattle.image_read.specs.declared.Loaded.{Loaded}
-use Rattle.image_read.specs.declared.Loaded.the-variants.{Store, Refused}
+use Rattle.answers.specs.declared.Loaded.{Loaded}
+use Rattle.answers.specs.declared.Loaded.the-variants.{Store, Refused}
 
 -- a head stands at the start, and "e, B, n, s, two each" are these
 abbrev pub Head : List ℕ → Type 0

@@ -6,9 +6,9 @@ use lib.ListN.{length, getD, drop}
 use Rattle.table.specs.Store.{Store, storeOf}
 use Rattle.table.specs.Entries.{entryIn}
 use Rattle.image_read.specs.Loading.{loadOf, keysBy, tableBy, buffersBy}
-use Rattle.image_read.specs.declared.Loaded.the-variants.{Store as Read}
+use Rattle.answers.specs.declared.Loaded.the-variants.{Store as Read}
 use Rattle.image_write.specs.Writing.{writeOf, outBy}
-use Rattle.image_write.specs.declared.Written.the-variants.{Bytes}
+use Rattle.answers.specs.declared.Written.the-variants.{Bytes}
 use Rattle.image_laws.specs.Same.{Same}
 
 -- the store that reading leaves in the slices where it answers e, B, n and s

@@ -9,8 +9,8 @@ use Rattle.scan.specs.Meaning.{Lowest}
 use Rattle.records.specs.Images.{imageBytes}
 use Rattle.records.specs.First.{first}
 use Rattle.records.specs.Stores.{imageIn}
-use Rattle.image_write.specs.declared.Written.{Written}
-use Rattle.image_write.specs.declared.Written.the-variants.{Bytes, Refused}
+use Rattle.answers.specs.declared.Written.{Written}
+use Rattle.answers.specs.declared.Written.the-variants.{Bytes, Refused}
 
 -- entry i is not one "with a field that doesn't fit or held ≥ B" ("a buffered key counts to its segment")
 pub record Writable (σ : Store) (i : ℕ) : Type 0 where

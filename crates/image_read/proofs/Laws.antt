@@ -26,8 +26,8 @@ use Rattle.image_fill.specs.Filling.{keysAt, rowsAt, slotsAt, ImageFill}
 use Rattle.image_fill.proofs.Laws.{keys-are, after-is}
 use Rattle.image_fill.proofs.Form.{rows-are, slots-are}
 use Rattle.image_read.specs.Loading.{keysHeld, segmentsHeld, roomedOf, afterJudged, loadOf, keysBy, tableBy, buffersBy}
-use Rattle.image_read.specs.declared.Loaded.{Loaded}
-use Rattle.image_read.specs.declared.Loaded.the-variants.{Store, Refused}
+use Rattle.answers.specs.declared.Loaded.{Loaded}
+use Rattle.answers.specs.declared.Loaded.the-variants.{Store, Refused}
 use Rattle.image_read.proofs.Told.{Told, well-told}
 
 -- ---- keys_held, segments_held, roomed

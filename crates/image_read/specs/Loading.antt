@@ -13,8 +13,8 @@ use Rattle.records.specs.Stores.{firsts, rowsOf, slotsBy}
 use Rattle.image_judge.specs.Judging.{judgedOf}
 use Rattle.image_judge.specs.declared.Judged.{Judged}
 use Rattle.image_judge.specs.declared.Judged.the-variants.{Well, Refused as Unwell}
-use Rattle.image_read.specs.declared.Loaded.{Loaded}
-use Rattle.image_read.specs.declared.Loaded.the-variants.{Store, Refused}
+use Rattle.answers.specs.declared.Loaded.{Loaded}
+use Rattle.answers.specs.declared.Loaded.the-variants.{Store, Refused}
 
 -- "Key room is ..", "Segment room is ..": n keys, and s segments, have room
 unfoldable pub keysHeld : ℕ → List ℕ → Bool

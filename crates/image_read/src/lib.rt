@@ -1,21 +1,11 @@
 // Reading an image into lent slices. Everything is decided, over the whole image, before a cell is written.
+use answers::Loaded;
 use image_judge::Judged;
 use terms::Refusal;
 ghost use mathlib.Core.Path.{_≡_};
 ghost use Prim.Native.Nat.{_<_};
 ghost use Rattle.table.specs.Limits.{Counted};
 ghost use Rattle.image_read.specs.Loading.{keysHeld, segmentsHeld, roomedOf, loadOf, keysBy, tableBy, buffersBy};
-
-// What reading answers: e, B, n and s, or a refusal.
-pub enum Loaded {
-    Store {
-        e: usize,
-        b: usize,
-        n: usize,
-        s: usize,
-    },
-    Refused(Refusal),
-}
 
 // Whether there is room for n keys.
 fn keys_held(n: usize, keys: &[u64]) -> bool

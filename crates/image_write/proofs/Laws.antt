@@ -33,8 +33,8 @@ use Rattle.image_put.specs.Pieces.{headBytes, keysBytes, pieceBytes, piecesByte
 use Rattle.image_put.proofs.Laws.{head-length, keys-length, piece-length, pieces-none, pieces-more, end-length, image-is}
 use Rattle.image_write.specs.Writing.{fitsAt, cellsFit, entryTests, entryFits, runWrong, orElse, wrongOf, lengthOf, fittedOf, judgedOf, writeOf, outBy}
 use Rattle.image_write.specs.Asks.{Cell, Cells, RowAt, EntryRoom, EntriesRoom, StoreRoom, partsSize, Fitting, Sizable, Sizing}
-use Rattle.image_write.specs.declared.Written.{Written}
-use Rattle.image_write.specs.declared.Written.the-variants.{Bytes, Refused}
+use Rattle.answers.specs.declared.Written.{Written}
+use Rattle.answers.specs.declared.Written.the-variants.{Bytes, Refused}
 
 -- ---- cell_fits, cells_fit
 

@@ -16,8 +16,8 @@ use Rattle.records.specs.Records.{fitsOf}
 use Rattle.records.specs.Images.{imageBytes}
 use Rattle.records.specs.First.{first}
 use Rattle.records.specs.Stores.{rowIn, imageIn}
-use Rattle.image_write.specs.declared.Written.{Written}
-use Rattle.image_write.specs.declared.Written.the-variants.{Bytes, Refused}
+use Rattle.answers.specs.declared.Written.{Written}
+use Rattle.answers.specs.declared.Written.the-variants.{Bytes, Refused}
 
 -- ---- 9
 

@@ -1,4 +1,5 @@
 // Writing a store as an image. Everything is decided before a byte is written.
+use answers::Written;
 use scan::Found;
 use terms::Refusal;
 ghost use mathlib.Core.Path.{_≡_};
@@ -12,12 +13,6 @@ ghost use Rattle.records.specs.First.{first};
 ghost use Rattle.records.specs.Stores.{rowIn};
 ghost use Rattle.image_write.specs.Writing.{fitsAt, entryFits, runWrong, wrongOf, fittedOf, judgedOf, writeOf, outBy};
 ghost use Rattle.image_write.specs.Asks.{Cell, Cells, RowAt, EntryRoom, EntriesRoom, StoreRoom, Sizable, Fitting, partsSize};
-
-// What writing answers: the image's length, or a refusal.
-pub enum Written {
-    Bytes(usize),
-    Refused(Refusal),
-}
 
 // Whether the key at p fits its record.
 fn cell_fits(cells: &[u64], p: usize) -> bool

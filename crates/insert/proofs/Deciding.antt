@@ -31,7 +31,7 @@ use Rattle.scan.specs.declared.Found.the-variants.{At, Nothing}
 use Rattle.scan.specs.Scan.{lowestOf, failsOf, noneOf}
 use Rattle.scan.proofs.Laws.{fail-here, fail-on, fail-end}
 use Rattle.cone.proofs.Cover.{few}
-use Rattle.lookup.specs.declared.Looked.{Looked}
+use Rattle.answers.specs.declared.Looked.{Looked}
 use Rattle.lookup.specs.Lookup.{slotOf, lowestIn, placeOr, bufferedOf, searchedOf}
 use Rattle.lookup.proofs.Laws.{slot-inside, find-asks}
 use Rattle.line.specs.declared.Span.{Span}
@@ -44,8 +44,8 @@ use Rattle.merging.specs.declared.Cutting.{Cutting}
 use Rattle.merging.specs.declared.Cutting.the-variants.{Pieces, Unruly}
 use Rattle.merging.specs.Judged.{piecesOf as cutInto, Judgeable}
 use Rattle.merging.proofs.Laws.{cut-rises, unruly-falls}
-use Rattle.insert.specs.declared.Inserted.{Inserted}
-use Rattle.insert.specs.declared.Inserted.the-variants.{Buffered, Merged, Refused}
+use Rattle.answers.specs.declared.Inserted.{Inserted}
+use Rattle.answers.specs.declared.Inserted.the-variants.{Buffered, Merged, Refused}
 use Rattle.joining.specs.Merged.{mergedWith, piecesOf, laterOk}
 use Rattle.insert.specs.Insert.{roomFor, laterFor, mergeFor, placedFor, unlessFound, segmentFor, insertOf}
 use Rattle.insert.specs.Decide.{passesOf, laterOf, roomedOf, soundFor, Counts, Keyed, Picked, Seated, Asked, Free, Fitting, Crowded}

@@ -23,12 +23,12 @@ use Rattle.table.proofs.Chosen.{chosen-below}
 use Rattle.scan.specs.declared.Found.{Found}
 use Rattle.scan.specs.declared.Found.the-variants.{At, Nothing}
 use Rattle.scan.specs.Scan.{failsOf}
-use Rattle.lookup.specs.declared.Looked.{Looked}
-use Rattle.lookup.specs.declared.Looked.the-variants.{InRun, InBuffer, Absent, Refused as NotLooked}
+use Rattle.answers.specs.declared.Looked.{Looked}
+use Rattle.answers.specs.declared.Looked.the-variants.{InRun, InBuffer, Absent, Refused as NotLooked}
 use Rattle.lookup.specs.Lookup.{searchedOf}
 use Rattle.lookup.proofs.Laws.{slot-inside}
-use Rattle.insert.specs.declared.Inserted.{Inserted}
-use Rattle.insert.specs.declared.Inserted.the-variants.{Buffered, Merged, Refused}
+use Rattle.answers.specs.declared.Inserted.{Inserted}
+use Rattle.answers.specs.declared.Inserted.the-variants.{Buffered, Merged, Refused}
 use Rattle.joining.specs.Merged.{mergedWith, piecesOf, laterOk}
 use Rattle.insert.specs.Insert.{roomFor, laterFor, mergeFor, placedFor, unlessFound, segmentFor, insertOf}
 use Rattle.joining.specs.Cells.{putSlots}

@@ -5,8 +5,8 @@ use lib.ListN.{set}
 use Rattle.table.specs.Store.{Store, storeOf}
 use Rattle.table.specs.Entries.{entryIn}
 use Rattle.joining.specs.Cells.{putSlots, mergedKeys, mergedTable, mergedSlots}
-use Rattle.insert.specs.declared.Inserted.{Inserted}
-use Rattle.insert.specs.declared.Inserted.the-variants.{Buffered, Merged, Refused}
+use Rattle.answers.specs.declared.Inserted.{Inserted}
+use Rattle.answers.specs.declared.Inserted.the-variants.{Buffered, Merged, Refused}
 
 -- ---- by the answer: "no lent slice differs from before the call" where it is a refusal
 

@@ -20,8 +20,8 @@ use Rattle.scan.specs.declared.Found.{Found}
 use Rattle.scan.specs.declared.Found.the-variants.{Nothing}
 use Rattle.scan.specs.Scan.{lowestOf, failsOf}
 use Rattle.lookup.specs.Lookup.{searchedOf}
-use Rattle.insert.specs.declared.Inserted.{Inserted}
-use Rattle.insert.specs.declared.Inserted.the-variants.{Merged, Refused}
+use Rattle.answers.specs.declared.Inserted.{Inserted}
+use Rattle.answers.specs.declared.Inserted.the-variants.{Merged, Refused}
 use Rattle.insert.specs.Insert.{placedFor, unlessFound, segmentFor}
 
 -- a later entry lets a merge pass: 01, "a later entry with base above n or held ≥ B" is wrong

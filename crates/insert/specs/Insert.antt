@@ -14,12 +14,12 @@ use Rattle.table.specs.Chosen.{chosenOf}
 use Rattle.scan.specs.declared.Found.{Found}
 use Rattle.scan.specs.declared.Found.the-variants.{At, Nothing}
 use Rattle.scan.specs.Scan.{failsOf}
-use Rattle.lookup.specs.declared.Looked.{Looked}
-use Rattle.lookup.specs.declared.Looked.the-variants.{InRun, InBuffer, Absent, Refused as NotLooked}
+use Rattle.answers.specs.declared.Looked.{Looked}
+use Rattle.answers.specs.declared.Looked.the-variants.{InRun, InBuffer, Absent, Refused as NotLooked}
 use Rattle.lookup.specs.Lookup.{searchedOf}
 use Rattle.joining.specs.Merged.{mergedWith, piecesOf, laterOk}
-use Rattle.insert.specs.declared.Inserted.{Inserted}
-use Rattle.insert.specs.declared.Inserted.the-variants.{Buffered, Merged, Refused}
+use Rattle.answers.specs.declared.Inserted.{Inserted}
+use Rattle.answers.specs.declared.Inserted.the-variants.{Buffered, Merged, Refused}
 
 -- 6: "merge due and n+B above key room"; 7: "result needs more segments than segment room".
 -- "The answer is i, t and the new n and s"

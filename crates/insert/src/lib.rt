@@ -1,4 +1,5 @@
 // Insert: a key goes into the buffer of its segment, or the segment is merged and cut again. What it refuses it leaves as it was.
+use answers::Inserted;
 use merging::Cutting;
 use scan::Found;
 use seat::Seat;
@@ -13,22 +14,6 @@ ghost use Rattle.table.specs.Entries.{Row};
 ghost use Rattle.insert.specs.Insert.{insertOf, placedFor, mergeFor};
 ghost use Rattle.insert.specs.Cells.{keysBy, tableBy, buffersBy};
 ghost use Rattle.insert.specs.Decide.{passesOf, laterOf, roomedOf, soundFor, chosenFor, Counts, Keyed, Asked, Seated, Free, Fitting, Crowded};
-
-pub enum Inserted {
-    // into the buffer of a segment, at this slot
-    Buffered {
-        segment: usize,
-        slot: usize,
-    },
-    // the segment was merged and cut into `pieces`; n and s are the new counts
-    Merged {
-        segment: usize,
-        pieces: usize,
-        n: usize,
-        s: usize,
-    },
-    Refused(Refusal),
-}
 
 // ---- what is decided before anything is written
 

@@ -27,14 +27,14 @@ use Rattle.scan.specs.declared.Found.the-variants.{At, Nothing}
 use Rattle.scan.specs.Scan.{failsOf}
 use Rattle.scan.specs.Meaning.{Scanned}
 use Rattle.scan.proofs.Meaning.{fails-scanned, scanned-same, one-answer}
-use Rattle.lookup.specs.declared.Looked.{Looked}
-use Rattle.lookup.specs.declared.Looked.the-variants.{InRun, InBuffer, Absent}
+use Rattle.answers.specs.declared.Looked.{Looked}
+use Rattle.answers.specs.declared.Looked.the-variants.{InRun, InBuffer, Absent}
 use Rattle.lookup.specs.Lookup.{searchedOf, lookupOf}
 use Rattle.lookup.proofs.Laws.{answered}
 use Rattle.lookup_laws.specs.Answers.{Asked, Taken, Answers as Looks, in-run, in-buffer, absent, refused-1 as looks-1, refused-2 as looks-2, refused-9 as looks-9}
 use Rattle.lookup_laws.proofs.Meaning.{answers as looks, only as looked, chosen-one}
-use Rattle.insert.specs.declared.Inserted.{Inserted}
-use Rattle.insert.specs.declared.Inserted.the-variants.{Buffered, Merged, Refused}
+use Rattle.answers.specs.declared.Inserted.{Inserted}
+use Rattle.answers.specs.declared.Inserted.the-variants.{Buffered, Merged, Refused}
 use Rattle.joining.specs.Merged.{mergedWith, piecesOf, laterOk}
 use Rattle.insert.specs.Insert.{roomFor, laterFor, mergeFor, placedFor, unlessFound, segmentFor, insertOf}
 use Rattle.insert_laws.specs.Answers.{Judged, New, Place, Due, Rising, Passes, Ready, Answers, buffered, merged, refused-1, refused-2, refused-9-entry, refused-9-buffer, refused-5-run, refused-5-slot, refused-9-merged, refused-9-later, refused-6, refused-7}

@@ -7,8 +7,8 @@ use denote.Ref.{now}
 use contract.Lifetimes.{Lfts}
 use Rattle.terms.specs.declared.Refusal.{Refusal}
 use Rattle.table.specs.Store.{Store}
-use Rattle.insert.specs.declared.Inserted.{Inserted}
-use Rattle.insert.specs.declared.Inserted.the-variants.{Refused}
+use Rattle.answers.specs.declared.Inserted.{Inserted}
+use Rattle.answers.specs.declared.Inserted.the-variants.{Refused}
 use Rattle.insert.specs.Cells.{keysBy, tableBy, buffersBy}
 use Rattle.insert.proofs.insert.Reads as insert
 

@@ -12,8 +12,8 @@ use Rattle.table.specs.Entries.{entryIn, usedIn}
 use Rattle.table.specs.Damaged.{Sound}
 use Rattle.scan.specs.Meaning.{None, Lowest}
 use Rattle.lookup_laws.specs.Answers.{Asked, Taken, Stands, Waits, Running, Waiting}
-use Rattle.insert.specs.declared.Inserted.{Inserted}
-use Rattle.insert.specs.declared.Inserted.the-variants.{Buffered, Merged, Refused}
+use Rattle.answers.specs.declared.Inserted.{Inserted}
+use Rattle.answers.specs.declared.Inserted.the-variants.{Buffered, Merged, Refused}
 use Rattle.joining.specs.Merged.{mergedWith, piecesOf}
 
 -- refusals 1, 2 and 9 for the entry are not due (`Taken`), nor is 9 for the buffer: "its used buffer not strictly rising and below 2^44"

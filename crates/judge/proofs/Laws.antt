@@ -34,7 +34,7 @@ use Rattle.order.specs.Order.{pairStart, restOf, nextOf}
 use Rattle.order.proofs.Rest.{FromRun, FromRest, Over, next-step, next-over, next-key}
 use Rattle.judge.specs.declared.Bound.{Bound}
 use Rattle.judge.specs.declared.Bound.the-variants.{Free, By}
-use Rattle.judge.specs.declared.Checked.the-variants.{Good, Refused}
+use Rattle.answers.specs.declared.Checked.the-variants.{Good, Refused}
 use Rattle.judge.specs.Check.{aboveOf, underOf, ceilingOf, betweenOf, runKeyOf, usedKeyOf, keptOf, rulesOf, checkOf, Drawn, Placed, Parts, Lent, Segment, Going}
 
 -- ---- above, under, not_before, starts, ceiling

@@ -20,8 +20,8 @@ use Rattle.scan.specs.Scan.{failsOf}
 use Rattle.order.specs.declared.Cursor.{Cursor}
 use Rattle.judge.specs.declared.Bound.{Bound}
 use Rattle.judge.specs.declared.Bound.the-variants.{Free, By}
-use Rattle.judge.specs.declared.Checked.{Checked}
-use Rattle.judge.specs.declared.Checked.the-variants.{Good, Refused}
+use Rattle.answers.specs.declared.Checked.{Checked}
+use Rattle.answers.specs.declared.Checked.the-variants.{Good, Refused}
 
 -- above the key before it, if there is one; below the next segment's first key, if there is one
 abbrev pub aboveOf : Bound → ℕ → Bool

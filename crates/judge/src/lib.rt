@@ -1,4 +1,5 @@
 // The check: whether a store keeps every rule, and the lowest segment that breaks one.
+use answers::Checked;
 use order::Cursor;
 use order::Next;
 use terms::Entry;
@@ -13,11 +14,6 @@ ghost use Rattle.table.specs.Store.{storeOf};
 ghost use Rattle.table.specs.Entries.{Row, runOf, usedOf};
 ghost use Rattle.judge.specs.declared.Bound.the-variants.{Free};
 ghost use Rattle.judge.specs.Check.{Drawn, Placed, Parts, Lent, Segment, aboveOf, underOf, ceilingOf, betweenOf, runKeyOf, usedKeyOf, keptOf, rulesOf, checkOf};
-
-pub enum Checked {
-    Good,
-    Refused(Refusal),
-}
 
 // A key that bounds others, or none: with no key past the greatest to stand for none, keys may fill a word.
 pub enum Bound {

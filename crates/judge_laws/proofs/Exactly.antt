@@ -13,7 +13,7 @@ use Rattle.table.specs.Store.{Store}
 use Rattle.table.specs.Limits.{Limits}
 use Rattle.table.specs.Entries.{entryIn, runIn, usedIn}
 use Rattle.line.proofs.Exact.{exact-near}
-use Rattle.judge.specs.declared.Checked.the-variants.{Good}
+use Rattle.answers.specs.declared.Checked.the-variants.{Good}
 use Rattle.judge.specs.Rules.{Rules}
 use Rattle.judge.specs.Check.{checkOf}
 use Rattle.judge_laws.specs.Exactly.{OtherRules, Exactly}

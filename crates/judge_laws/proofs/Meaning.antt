@@ -14,8 +14,8 @@ use Rattle.scan.specs.declared.Found.the-variants.{At, Nothing}
 use Rattle.scan.specs.Scan.{failsOf}
 use Rattle.scan.specs.Meaning.{Scanned}
 use Rattle.scan.proofs.Meaning.{fails-scanned, one-answer}
-use Rattle.judge.specs.declared.Checked.{Checked}
-use Rattle.judge.specs.declared.Checked.the-variants.{Good, Refused}
+use Rattle.answers.specs.declared.Checked.{Checked}
+use Rattle.answers.specs.declared.Checked.the-variants.{Good, Refused}
 use Rattle.judge.specs.Rules.{Rules, Accepted}
 use Rattle.judge.specs.Check.{rulesOf, judged, checkOf}
 use Rattle.judge_laws.specs.Answers.{Wrong, Answers, good, refused-1, refused-9}

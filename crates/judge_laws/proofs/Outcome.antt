@@ -2,7 +2,7 @@
 -- Assumes nothing.
 use mathlib.Core.Path.{_≡_, sym, _∙_}
 use contract.Lifetimes.{Lfts}
-use Rattle.judge.specs.declared.Checked.{Checked}
+use Rattle.answers.specs.declared.Checked.{Checked}
 use Rattle.judge.proofs.check.Reads as check
 
 pub one-outcome : (κs : Lfts 3) (a : _) (r r′ : Checked) (x x′ : _) → check.Post κs a r x → check.Post κs a r′ x′ → r ≡ r′

@@ -11,7 +11,7 @@ use Rattle.table.specs.Entries.{entryOf}
 use Rattle.table.specs.Damaged.{damagedOf}
 use Rattle.line.specs.Line.{guessOf, windowOf}
 use Rattle.scan.specs.Scan.{firstOf, failsOf}
-use Rattle.judge.specs.declared.Checked.the-variants.{Good, Refused}
+use Rattle.answers.specs.declared.Checked.the-variants.{Good, Refused}
 use Rattle.judge.specs.Check.{betweenOf, runKeyOf, usedKeyOf, keptOf, rulesOf, checkOf}
 
 -- with this first key of segment 1, and this key in its first slot, of which it holds so many

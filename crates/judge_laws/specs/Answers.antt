@@ -4,8 +4,8 @@ use Rattle.terms.specs.declared.Refusal.the-variants.{Limits as OutOfLimits, St
 use Rattle.table.specs.Store.{Store}
 use Rattle.table.specs.Limits.{Limits}
 use Rattle.judge.specs.Rules.{Rules, Accepted}
-use Rattle.judge.specs.declared.Checked.{Checked}
-use Rattle.judge.specs.declared.Checked.the-variants.{Good, Refused}
+use Rattle.answers.specs.declared.Checked.{Checked}
+use Rattle.answers.specs.declared.Checked.the-variants.{Good, Refused}
 
 -- "the lowest segment that breaks a rule"
 pub record Wrong (σ : Store) (i : ℕ) : Type 0 where

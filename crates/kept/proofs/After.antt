@@ -14,19 +14,19 @@ use Rattle.terms.specs.Limits.{keyLimit}
 use Rattle.terms.specs.declared.Refusal.the-variants.{Present}
 use Rattle.table.specs.Store.{Store}
 use Rattle.table.specs.Reads.{reads}
-use Rattle.lookup.specs.declared.Looked.the-variants.{Absent}
+use Rattle.answers.specs.declared.Looked.the-variants.{Absent}
 use Rattle.lookup.specs.Lookup.{lookupOf}
 use Rattle.judge.specs.Rules.{Accepted}
 use Rattle.judge.specs.Check.{checkOf}
-use Rattle.judge.specs.declared.Checked.the-variants.{Good}
+use Rattle.answers.specs.declared.Checked.the-variants.{Good}
 use Rattle.judge_laws.proofs.Meaning.{accepted-good}
 use Rattle.judge_laws.proofs.Segments.{reads-rise}
 use Rattle.stretch.specs.Stretch.{stretchFor}
 use Rattle.stretch.proofs.Stretch.{range-is}
 use Rattle.shown.specs.Found.{Finds, Holds}
 use Rattle.shown.proofs.Found.{found-read, read-held, unread-absent, absent-unread}
-use Rattle.insert.specs.declared.Inserted.{Inserted}
-use Rattle.insert.specs.declared.Inserted.the-variants.{Buffered, Merged, Refused}
+use Rattle.answers.specs.declared.Inserted.{Inserted}
+use Rattle.answers.specs.declared.Inserted.the-variants.{Buffered, Merged, Refused}
 use Rattle.insert.specs.Insert.{insertOf}
 use Rattle.kept.specs.After.{afterOne, after, listBy, takenBy, taken, insertAll}
 use Rattle.kept.proofs.Outcome.{read-refused, refused-read}

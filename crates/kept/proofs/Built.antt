@@ -14,14 +14,14 @@ use Rattle.table.specs.Reads.{reads}
 use Rattle.table.proofs.Limits.{Holds as Roomy, room-holds}
 use Rattle.judge.specs.Rules.{Accepted}
 use Rattle.judge.specs.Check.{checkOf}
-use Rattle.judge.specs.declared.Checked.the-variants.{Good}
+use Rattle.answers.specs.declared.Checked.the-variants.{Good}
 use Rattle.judge_laws.proofs.Meaning.{accepted-good}
 use Rattle.cone.specs.Rule.{cut}
 use Rattle.cone.specs.Keys.{Cuttable}
 use Rattle.cutting.specs.Rows.{rowsOf}
 use Rattle.cutting.proofs.Rows.{rows-length}
-use Rattle.build.specs.declared.Built.{Built}
-use Rattle.build.specs.declared.Built.the-variants.{Made}
+use Rattle.answers.specs.declared.Built.{Built}
+use Rattle.answers.specs.declared.Built.the-variants.{Made}
 use Rattle.build.specs.Build.{Takes, builtOf, tableBy}
 use Rattle.build.proofs.Faults.{good-cuttable}
 use Rattle.build_laws.specs.Builds.{Builds, Accepted as Taken}

@@ -29,8 +29,8 @@ use Rattle.shown.specs.Shows.{segOf, segsFrom, segments, Shown}
 use Rattle.shown.proofs.Shown.{stretch-reads, shown-reads}
 use Rattle.shown.proofs.Accepts.{shown-accepted}
 use Rattle.shown.proofs.Views.{first-of, all-of, length-segs, segs-split, length-used, accepted-chain, accepted-shown}
-use Rattle.insert.specs.declared.Inserted.{Inserted}
-use Rattle.insert.specs.declared.Inserted.the-variants.{Buffered, Merged}
+use Rattle.answers.specs.declared.Inserted.{Inserted}
+use Rattle.answers.specs.declared.Inserted.the-variants.{Buffered, Merged}
 use Rattle.joining.specs.Merged.{mergedWith, piecesOf}
 use Rattle.insert.specs.Insert.{insertOf}
 use Rattle.joining.specs.Cells.{putSlots, mergedKeys, mergedTable, mergedSlots}

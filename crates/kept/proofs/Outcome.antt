@@ -32,8 +32,8 @@ use Rattle.scan.proofs.Meaning.{fails-scanned, one-answer}
 use Rattle.judge.specs.Rules.{Rules, Accepted}
 use Rattle.judge_laws.proofs.Segments.{reads-rise}
 use Rattle.judge_laws.proofs.Whereabouts.{where-read}
-use Rattle.lookup.specs.declared.Looked.{Looked}
-use Rattle.lookup.specs.declared.Looked.the-variants.{Absent}
+use Rattle.answers.specs.declared.Looked.{Looked}
+use Rattle.answers.specs.declared.Looked.the-variants.{Absent}
 use Rattle.lookup.specs.Lookup.{searchedOf, segmentOf, lookupOf}
 use Rattle.lookup.proofs.Laws.{answered}
 use Rattle.lookup_laws.specs.Answers.{Answers, in-run, in-buffer, absent, refused-1, refused-2, refused-9}
@@ -41,8 +41,8 @@ use Rattle.lookup_laws.proofs.Meaning.{answers}
 use Rattle.shown.specs.Found.{Finds}
 use Rattle.shown.proofs.Views.{length-run, length-used}
 use Rattle.shown.proofs.Found.{found-read, absent-unread, unread-absent}
-use Rattle.insert.specs.declared.Inserted.{Inserted}
-use Rattle.insert.specs.declared.Inserted.the-variants.{Buffered, Merged, Refused}
+use Rattle.answers.specs.declared.Inserted.{Inserted}
+use Rattle.answers.specs.declared.Inserted.the-variants.{Buffered, Merged, Refused}
 use Rattle.joining.specs.Merged.{mergedWith, piecesOf, laterOk}
 use Rattle.insert.specs.Insert.{roomFor, mergeFor, placedFor, unlessFound, segmentFor, insertOf}
 use Rattle.kept.specs.Outcome.{Wanted, Due, Says, Outcome, large, present, buffered, no-keys, no-segments, merged}

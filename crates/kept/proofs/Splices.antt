@@ -21,7 +21,7 @@ use Rattle.segments.specs.Cuts.{rows}
 use Rattle.segments.proofs.Insert.{runs-append}
 use Rattle.shown.specs.Shows.{segOf, Slots, Shown}
 use Rattle.shown.proofs.Shown.{entryBy, shown-next, shown-entry, shown-segment}
-use Rattle.insert.specs.declared.Inserted.the-variants.{Buffered, Merged}
+use Rattle.answers.specs.declared.Inserted.the-variants.{Buffered, Merged}
 use Rattle.joining.specs.Merged.{mergedWith}
 use Rattle.joining.specs.Cells.{putSlots, raised, heldOf, laid, mergedKeys, mergedTable, mergedSlots}
 use Rattle.insert.specs.Cells.{storeBy}

@@ -11,8 +11,8 @@ use Rattle.table.specs.Limits.{keyRoom, segmentRoom}
 use Rattle.table.specs.Entries.{entryIn, usedIn}
 use Rattle.table.specs.Chosen.{Chosen}
 use Rattle.table.specs.Reads.{reads}
-use Rattle.insert.specs.declared.Inserted.{Inserted}
-use Rattle.insert.specs.declared.Inserted.the-variants.{Buffered, Merged, Refused}
+use Rattle.answers.specs.declared.Inserted.{Inserted}
+use Rattle.answers.specs.declared.Inserted.the-variants.{Buffered, Merged, Refused}
 use Rattle.joining.specs.Merged.{piecesOf}
 
 -- k is a key, the store does not have it, and segment i is the one chosen for it

@@ -9,8 +9,8 @@ use Rattle.table.specs.Entries.{entryIn}
 use Rattle.table.specs.Reads.{mergedIn}
 use Rattle.cone.specs.Rule.{cut}
 use Rattle.cutting.specs.Rows.{rowsOf}
-use Rattle.insert.specs.declared.Inserted.{Inserted}
-use Rattle.insert.specs.declared.Inserted.the-variants.{Buffered, Merged, Refused}
+use Rattle.answers.specs.declared.Inserted.{Inserted}
+use Rattle.answers.specs.declared.Inserted.the-variants.{Buffered, Merged, Refused}
 use Rattle.insert.specs.Cells.{keysBy, tableBy}
 
 -- the segment's reads, with k in its rising place

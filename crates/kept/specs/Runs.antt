@@ -20,11 +20,11 @@ use Rattle.table.specs.Damaged.{damagedOf}
 use Rattle.table.specs.Chosen.{chosenOf}
 use Rattle.cone.specs.Rule.{joins, segmentOf, cutFrom, cut}
 use Rattle.cutting.specs.Rows.{rowsOf}
-use Rattle.lookup.specs.declared.Looked.{Looked}
-use Rattle.lookup.specs.declared.Looked.the-variants.{Absent}
+use Rattle.answers.specs.declared.Looked.{Looked}
+use Rattle.answers.specs.declared.Looked.the-variants.{Absent}
 use Rattle.lookup.specs.Lookup.{bufferedOf, searchedOf, segmentOf as lookedIn, lookupOf}
-use Rattle.insert.specs.declared.Inserted.{Inserted}
-use Rattle.insert.specs.declared.Inserted.the-variants.{Buffered, Merged, Refused}
+use Rattle.answers.specs.declared.Inserted.{Inserted}
+use Rattle.answers.specs.declared.Inserted.the-variants.{Buffered, Merged, Refused}
 use Rattle.joining.specs.Merged.{laterOk}
 use Rattle.insert.specs.Insert.{roomFor, mergeFor, placedFor, segmentFor, insertOf}
 use Rattle.joining.specs.Cells.{putSlots, mergedKeys, raised, mergedTable, heldOf, laid, mergedSlots}

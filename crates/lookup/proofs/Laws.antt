@@ -27,8 +27,8 @@ use Rattle.line.proofs.Laws.{window-reaches}
 use Rattle.scan.specs.declared.Found.{Found}
 use Rattle.scan.specs.declared.Found.the-variants.{At, Nothing}
 use Rattle.scan.specs.Scan.{lowestOf}
-use Rattle.lookup.specs.declared.Looked.{Looked}
-use Rattle.lookup.specs.declared.Looked.the-variants.{InRun, InBuffer, Absent, Refused}
+use Rattle.answers.specs.declared.Looked.{Looked}
+use Rattle.answers.specs.declared.Looked.the-variants.{InRun, InBuffer, Absent, Refused}
 use Rattle.lookup.specs.Lookup.{Searchable, bufferedOf, searchedOf, segmentOf, lookupOf}
 
 -- slot h of segment i stands among the slots of s segments

@@ -18,8 +18,8 @@ use Rattle.line.specs.Line.{Lined, windowOf}
 use Rattle.scan.specs.declared.Found.{Found}
 use Rattle.scan.specs.declared.Found.the-variants.{At, Nothing}
 use Rattle.scan.specs.Scan.{lowestOf}
-use Rattle.lookup.specs.declared.Looked.{Looked}
-use Rattle.lookup.specs.declared.Looked.the-variants.{InRun, InBuffer, Absent, Refused}
+use Rattle.answers.specs.declared.Looked.{Looked}
+use Rattle.answers.specs.declared.Looked.the-variants.{InRun, InBuffer, Absent, Refused}
 
 -- "else the lowest used buffer slot with k, as segment and slot, counted from 0 in the segment; else absent"
 abbrev pub slotOf : ℕ → Found → Looked

@@ -1,4 +1,5 @@
 // Point lookup: a public call that has no `requires`, and answers or refuses on every input.
+use answers::Looked;
 use scan::Found;
 use terms::Entry;
 use terms::Key;
@@ -9,15 +10,6 @@ ghost use Prim.Native.Nat.{_+_, _*_, _≤_};
 ghost use lib.ListN.{length};
 ghost use Rattle.table.specs.Store.{storeOf};
 ghost use Rattle.lookup.specs.Lookup.{Searchable, bufferedOf, searchedOf, lookupOf};
-
-pub enum Looked {
-    // in a run, at this position of the key slice
-    InRun(Pos),
-    // in the buffer of a segment, at this slot, counted from 0 in the segment
-    InBuffer { segment: usize, slot: usize },
-    Absent,
-    Refused(Refusal),
-}
 
 // The lowest used slot of segment i that holds k.
 fn in_buffer(b: usize, buffers: &[u64], i: usize, held: usize, k: Key) -> Looked

@@ -25,8 +25,8 @@ use Rattle.scan.specs.declared.Found.the-variants.{At, Nothing}
 use Rattle.scan.specs.Scan.{lowestOf}
 use Rattle.scan.specs.Meaning.{Holds, Scanned}
 use Rattle.scan.proofs.Meaning.{scanned, one-answer, scanned-same}
-use Rattle.lookup.specs.declared.Looked.{Looked}
-use Rattle.lookup.specs.declared.Looked.the-variants.{InRun}
+use Rattle.answers.specs.declared.Looked.{Looked}
+use Rattle.answers.specs.declared.Looked.the-variants.{InRun}
 use Rattle.lookup.specs.Lookup.{slotOf, placeOr, bufferedOf, lowestIn, searchedOf, segmentOf, lookupOf}
 use Rattle.lookup.proofs.Laws.{limits-refused, key-refused, damage-refused, answered}
 use Rattle.lookup_laws.specs.Answers.{Asked, Taken, Stands, Waits, Answers, in-run, in-buffer, absent, refused-1, refused-2, refused-9}

@@ -11,8 +11,8 @@ use Rattle.table.specs.Damaged.{Sound}
 use Rattle.table.specs.Chosen.{Chosen}
 use Rattle.line.specs.Meaning.{Near}
 use Rattle.scan.specs.Meaning.{None, Lowest}
-use Rattle.lookup.specs.declared.Looked.{Looked}
-use Rattle.lookup.specs.declared.Looked.the-variants.{InRun, InBuffer, Absent, Refused}
+use Rattle.answers.specs.declared.Looked.{Looked}
+use Rattle.answers.specs.declared.Looked.the-variants.{InRun, InBuffer, Absent, Refused}
 
 -- neither refusal 1 nor 2 is due, and segment i is the one chosen for k
 pub record Asked (σ : Store) (k i : ℕ) : Type 0 where

@@ -14,8 +14,8 @@ use Rattle.table.specs.Limits.{segmentRoom}
 use Rattle.scan.specs.declared.Found.{Found}
 use Rattle.scan.specs.declared.Found.the-variants.{At, Nothing}
 use Rattle.cone.specs.Rule.{cut}
-use Rattle.build.specs.declared.Built.{Built}
-use Rattle.build.specs.declared.Built.the-variants.{Made, Refused as NotBuilt}
+use Rattle.answers.specs.declared.Built.{Built}
+use Rattle.answers.specs.declared.Built.the-variants.{Made, Refused as NotBuilt}
 use Rattle.build.specs.Build.{takesOf, faultOf, roomedOf, foundOf, judgedOf, answerBy, builtOf, tableBy}
 use Rattle.start_list.specs.declared.Listed.{Listed}
 use Rattle.start_list.specs.declared.Listed.the-variants.{List as Given, Refused as NotListed}

@@ -4,8 +4,8 @@ use mathlib.Core.List.{List}
 use Prim.Native.Nat.{ℕ, _≤_}
 use lib.ListN.{length, replicate}
 use Rattle.lists.specs.Over.{over}
-use Rattle.build.specs.declared.Built.{Built}
-use Rattle.build.specs.declared.Built.the-variants.{Made, Refused as NotBuilt}
+use Rattle.answers.specs.declared.Built.{Built}
+use Rattle.answers.specs.declared.Built.the-variants.{Made, Refused as NotBuilt}
 use Rattle.build.specs.Build.{builtOf, tableBy}
 use Rattle.start_list.specs.declared.Listed.{Listed}
 use Rattle.start_list.specs.declared.Listed.the-variants.{List as Given, Refused as NotListed}

@@ -1,5 +1,5 @@
 // The program `cut` as a function: from the bytes of its input to the bytes of its output.
-use build::Built;
+use answers::Built;
 use start_list::Listed;
 ghost use mathlib.Core.Path.{_≡_};
 ghost use Prim.Native.Nat.{_≤_};

@@ -28,8 +28,8 @@ use Rattle.listing.specs.declared.Judged.the-variants.{WrongAt, Counts}
 use Rattle.listing.specs.Stretch.{fineOf, keysIn, countedBy, judgedOf}
 use Rattle.listing.specs.Asks.{Stretch, Fillable}
 use Rattle.listing.proofs.Stretches.{fine-sound}
-use Rattle.range.specs.declared.Ranged.{Ranged}
-use Rattle.range.specs.declared.Ranged.the-variants.{Listed, Refused}
+use Rattle.answers.specs.declared.Ranged.{Ranged}
+use Rattle.answers.specs.declared.Ranged.the-variants.{Listed, Refused}
 use Rattle.range.specs.Range.{stretchedOf, chosenRangeOf, rangeOf, outBy, keysFrom}
 
 -- ---- stretched

@@ -12,8 +12,8 @@ use Rattle.table.specs.Chosen.{chosenOf}
 use Rattle.listing.specs.declared.Judged.{Judged}
 use Rattle.listing.specs.declared.Judged.the-variants.{WrongAt, Counts}
 use Rattle.listing.specs.Stretch.{keysIn, judgedOf}
-use Rattle.range.specs.declared.Ranged.{Ranged}
-use Rattle.range.specs.declared.Ranged.the-variants.{Listed, Refused}
+use Rattle.answers.specs.declared.Ranged.{Ranged}
+use Rattle.answers.specs.declared.Ranged.the-variants.{Listed, Refused}
 
 -- 9, then 8: "result longer than the out slice", which holds `room` keys
 abbrev pub listedBy : ℕ → Judged → Ranged

@@ -1,4 +1,5 @@
 // Range: the keys from low to high, written to a slice. Everything is decided before anything is written, and nothing is copied out.
+use answers::Ranged;
 use listing::Judged;
 use terms::Key;
 use terms::Pos;
@@ -10,12 +11,6 @@ ghost use Rattle.table.specs.Limits.{Limits};
 ghost use Rattle.listing.specs.Stretch.{keysIn};
 ghost use Rattle.listing.specs.Asks.{Stretch};
 ghost use Rattle.range.specs.Range.{stretchedOf, chosenRangeOf, rangeOf, outBy, keysFrom};
-
-pub enum Ranged {
-    // how many keys were written
-    Listed(usize),
-    Refused(Refusal),
-}
 
 // The stretch, judged and then written.
 fn stretched(

@@ -25,8 +25,8 @@ use Rattle.scan.specs.Meaning.{Scanned}
 use Rattle.scan.proofs.Meaning.{fails-scanned, one-answer}
 use Rattle.stretch.proofs.Stretch.{stretch-forward}
 use Rattle.listing.specs.Stretch.{fineOf, countedBy, judgedOf}
-use Rattle.range.specs.declared.Ranged.{Ranged}
-use Rattle.range.specs.declared.Ranged.the-variants.{Listed, Refused}
+use Rattle.answers.specs.declared.Ranged.{Ranged}
+use Rattle.answers.specs.declared.Ranged.the-variants.{Listed, Refused}
 use Rattle.range.specs.Range.{listedBy, stretchedOf, chosenRangeOf, rangeOf, outBy, keysFrom}
 use Rattle.range.proofs.Laws.{range-limits, range-low, range-high, range-backwards}
 use Rattle.range_laws.specs.Answers.{Asked, Fine, Right, listOf, Held, Long, Wrong, Answers, listed, refused-1, refused-2, refused-4, refused-9, refused-8}

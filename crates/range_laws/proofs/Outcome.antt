@@ -5,8 +5,8 @@ use mathlib.Core.Path.{_≡_, sym, _∙_}
 use contract.Lifetimes.{Lfts}
 use denote.Ref.{now}
 use Rattle.terms.specs.declared.Refusal.{Refusal}
-use Rattle.range.specs.declared.Ranged.{Ranged}
-use Rattle.range.specs.declared.Ranged.the-variants.{Refused}
+use Rattle.answers.specs.declared.Ranged.{Ranged}
+use Rattle.answers.specs.declared.Ranged.the-variants.{Refused}
 use Rattle.range.proofs.range.Reads as range
 
 -- the out slice is the tenth parameter

@@ -19,7 +19,7 @@ use Rattle.table.proofs.Chosen.{chosen-is}
 use Rattle.judge.specs.Rules.{Accepted}
 use Rattle.judge_laws.proofs.Segments.{held-key, reads-rise}
 use Rattle.stretch.proofs.Stretch.{stretch-split, range-is}
-use Rattle.range.specs.declared.Ranged.the-variants.{Listed, Refused}
+use Rattle.answers.specs.declared.Ranged.the-variants.{Listed, Refused}
 use Rattle.range.specs.Range.{rangeOf, keysFrom}
 use Rattle.range_laws.specs.Answers.{Asked, Fine, Right}
 use Rattle.range_laws.proofs.Meaning.{held-listed, long-eight}

@@ -18,7 +18,7 @@ use Rattle.table.specs.Chosen.{chosenOf}
 use Rattle.table.specs.Reads.{stretchOf}
 use Rattle.scan.specs.Scan.{firstOf, failsOf}
 use Rattle.listing.specs.Stretch.{lastOf, fineOf, judgedOf}
-use Rattle.range.specs.declared.Ranged.the-variants.{Listed, Refused}
+use Rattle.answers.specs.declared.Ranged.the-variants.{Listed, Refused}
 use Rattle.range.specs.Range.{stretchedOf, chosenRangeOf, rangeOf, outBy, keysFrom}
 
 -- with these keys at positions 0 and 2, and this key in segment 1's first slot, of which it holds so many

@@ -14,8 +14,8 @@ use Rattle.table.specs.Entries.{entryIn}
 use Rattle.table.specs.Damaged.{Sound}
 use Rattle.table.specs.Chosen.{Chosen}
 use Rattle.table.specs.Reads.{mergedIn, stretchOf}
-use Rattle.range.specs.declared.Ranged.{Ranged}
-use Rattle.range.specs.declared.Ranged.the-variants.{Listed, Refused}
+use Rattle.answers.specs.declared.Ranged.{Ranged}
+use Rattle.answers.specs.declared.Ranged.the-variants.{Listed, Refused}
 
 -- none of the refusals 1, 2 and 4 is due, and "the stretch runs from the segment chosen for low to that chosen for high": from a to z
 pub record Asked (σ : Store) (low high a z : ℕ) : Type 0 where

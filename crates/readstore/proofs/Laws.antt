@@ -5,20 +5,20 @@ use mathlib.Core.List.{List}
 use Prim.Native.Nat.{ℕ}
 use lib.ListN.{length}
 use Rattle.table.specs.Store.{storeOf}
-use Rattle.build.specs.declared.Built.{Built}
+use Rattle.answers.specs.declared.Built.{Built}
 use Rattle.build.specs.Build.{builtOf, tableBy}
-use Rattle.judge.specs.declared.Checked.{Checked}
+use Rattle.answers.specs.declared.Checked.{Checked}
 use Rattle.judge.specs.Check.{checkOf}
-use Rattle.lookup.specs.declared.Looked.{Looked}
+use Rattle.answers.specs.declared.Looked.{Looked}
 use Rattle.lookup.specs.Lookup.{lookupOf}
-use Rattle.range.specs.declared.Ranged.{Ranged}
+use Rattle.answers.specs.declared.Ranged.{Ranged}
 use Rattle.range.specs.Range.{rangeOf, outBy as rangedOut, keysFrom}
-use Rattle.insert.specs.declared.Inserted.{Inserted}
+use Rattle.answers.specs.declared.Inserted.{Inserted}
 use Rattle.insert.specs.Insert.{insertOf}
 use Rattle.insert.specs.Cells.{keysBy as insertedKeys, tableBy as insertedTable, buffersBy as insertedBuffers}
-use Rattle.image_write.specs.declared.Written.{Written}
+use Rattle.answers.specs.declared.Written.{Written}
 use Rattle.image_write.specs.Writing.{writeOf, outBy}
-use Rattle.image_read.specs.declared.Loaded.{Loaded}
+use Rattle.answers.specs.declared.Loaded.{Loaded}
 use Rattle.image_read.specs.Loading.{loadOf, keysBy, tableBy as loadedTable, buffersBy}
 use Rattle.numbers.specs.Numbers.{builtNumbers, checkedNumbers, lookedNumbers, rangedNumbers, insertedNumbers, writtenNumbers, loadedNumbers}
 

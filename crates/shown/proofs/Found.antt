@@ -15,8 +15,8 @@ use Rattle.table.specs.Store.{Store}
 use Rattle.table.specs.Entries.{entryIn, runIn, usedIn}
 use Rattle.table.specs.Reads.{mergedIn, reads}
 use Rattle.line.specs.Meaning.{Near}
-use Rattle.lookup.specs.declared.Looked.{Looked}
-use Rattle.lookup.specs.declared.Looked.the-variants.{Absent, Refused}
+use Rattle.answers.specs.declared.Looked.{Looked}
+use Rattle.answers.specs.declared.Looked.the-variants.{Absent, Refused}
 use Rattle.lookup.specs.Lookup.{lookupOf}
 use Rattle.lookup_laws.specs.Answers.{Stands, Waits, Missing, Answers, in-run, in-buffer, absent, refused-1, refused-2, refused-9}
 use Rattle.lookup_laws.proofs.Meaning.{slot-at, answers}

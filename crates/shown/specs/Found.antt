@@ -4,8 +4,8 @@ use Prim.Native.Nat.{ℕ, _+_, _*_, _<_}
 use lib.ListN.{getD}
 use Rattle.table.specs.Store.{Store}
 use Rattle.table.specs.Entries.{entryIn}
-use Rattle.lookup.specs.declared.Looked.{Looked}
-use Rattle.lookup.specs.declared.Looked.the-variants.{InRun, InBuffer, Absent, Refused}
+use Rattle.answers.specs.declared.Looked.{Looked}
+use Rattle.answers.specs.declared.Looked.the-variants.{InRun, InBuffer, Absent, Refused}
 
 -- the answer names a place
 abbrev pub Finds : Looked → Type 0
