@@ -103,12 +103,15 @@ module _ (b s : ℕ) (t bs : List ℕ) (i : ℕ) (r : EntryRoom b s t bs i) wher
   pub slot-fits : Fits w64 (i * b)
   slot-fits = record { fits = omega (arith, slot-small) }
 
-  module _ {h : ℕ} (few : h < b) where
+  module _ {h : ℕ} (few : h ≤ b) where
     pub slots-fit : Fits w64 (i * b + h)
     slots-fit = record { fits = omega (arith, slot-small, r .small) }
 
     pub cells-asks : Cells bs (i * b + h)
     cells-asks = record { inside = omega (arith, last-slot, next-slot, r .slots) }
+
+pub at-most : (h b : ℕ) → h < b → h ≤ b
+at-most h b l = omega (arith, l)
 
 entry-last : (p q c : Bool) {r : Bool} → p ≡ true → q ≡ true → r ≡ c → r ≡ all (p ∷ (q ∷ (c ∷ [])))
 unfolding all
@@ -142,7 +145,7 @@ module _ (b : ℕ) (t bs : List ℕ) (i : ℕ) {f : Bool} (fields : f ≡ fitsOf
         entry-last (fitsOf (first .segment .widths) (rowIn t i)) (ltb (getD t (5 * i + 4) 0) b) (cellsFit (first .buffered .widths) bs (i * b) (i * b + getD t (5 * i + 4) 0))
         (sym fields ∙ yes) l c
 
-pub ruleset entry-cases = (row-asks, slot-fits, slots-fit, cells-asks, entry-large, entry-full, entry-answered)
+pub ruleset entry-cases = (row-asks, slot-fits, at-most, slots-fit, cells-asks, entry-large, entry-full, entry-answered)
 
 -- ---- lowest_wrong
 

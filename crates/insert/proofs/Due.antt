@@ -1,6 +1,6 @@
 -- What an answer says that is not a refusal: all that the writing of it asks. And the cases of the call.
 -- Assumes nothing.
-use mathlib.Core.Path.{_≡_, refl, sym, _∙_}
+use mathlib.Core.Path.{_≡_, refl, sym, ap, _∙_}
 use mathlib.Core.List.{List}
 use Prim.Native.Nat.{ℕ, suc, _+_, _-_, _*_, _≤_, _<_}
 use native.Mathlib.Nat.{mul-le-mul}
@@ -31,13 +31,10 @@ use Rattle.answers.specs.declared.Inserted.{Inserted}
 use Rattle.answers.specs.declared.Inserted.the-variants.{Buffered, Merged, Refused}
 use Rattle.joining.specs.Merged.{mergedWith, piecesOf, laterOk}
 use Rattle.insert.specs.Insert.{roomFor, laterFor, mergeFor, placedFor, unlessFound, segmentFor, insertOf}
+use Rattle.insert.specs.Cells.{keysBy, tableBy, buffersBy}
+use Rattle.insert.specs.Due.{Due}
 use Rattle.joining.specs.Cells.{putSlots}
 use Rattle.joining.specs.Write.{Holding, Holdable, Mergeable}
-
-abbrev pub Due : Store → ℕ → Inserted → Type 0
-Due σ k (Buffered i j) = Holdable σ i j k
-Due σ k (Merged i t n s) = Mergeable σ i t k
-Due σ k (Refused r) = Unit
 
 module _ (σ : Store) (k i : ℕ) (limits : Limits σ) (inside : i < σ .s) (sound : Sound (σ .b) (σ .n) (entryIn σ i)) where
   due-room : σ .b ≤ entryIn σ i .held + 1 → Up 0 keyLimit (mergedWith σ i k) → failsOf (laterOk σ) (suc i) (σ .s - suc i) ≡ Nothing → Due σ k (roomFor σ i k)
@@ -102,32 +99,33 @@ due σ k =
 
 -- ---- the call
 
-module _ (e b n s : ℕ) (keys table buffers : List ℕ) (k : ℕ) {a : Inserted} (decided : a ≡ insertOf (storeOf e b n s keys table buffers) k) where
+module _ (e b n s : ℕ) (keys table buffers : List ℕ) (k : ℕ) where
   abbrev σ : Store
   σ = storeOf e b n s keys table buffers
 
-  says : (v : Inserted) → a ≡ v → Due σ k v
-  says v q = rw (sym decided ∙ q) at (due σ k)
+  pub insert-due : {a : Inserted} → a ≡ insertOf (storeOf e b n s keys table buffers) k → Due (storeOf e b n s keys table buffers) k a
+  insert-due decided = rw (sym decided) at (due σ k)
 
-  pub insert-holding : {i j : ℕ} → a ≡ Buffered i j → Holding b table buffers i j k
-  unfolding entryOf
-  insert-holding {i} {j} q =
-      let w : Holdable σ i j k = says (Buffered i j) q in
-      let slots : i * b + entryIn σ i .held < s * b = omega (arith, slot-inside b (w .inside) (w .free)) in
-      let all : s * b ≤ 524288 = mul-le-mul (w .limits .s-most) (w .limits .b-most) in
-      record {
-        row = omega (arith, w .limits, w .inside);
-        few = omega (arith, w .limits, w .free);
-        room = omega (arith, w .limits, slots);
-        small = omega (arith, slots, all);
-        place = w .place;
-      }
+  module _ {a : Inserted} (asks : Due (storeOf e b n s keys table buffers) k a) where
+    says : (v : Inserted) → a ≡ v → Due σ k v
+    says v q = rw q at asks
 
-  pub insert-merging : {i t m g : ℕ} → a ≡ Merged i t m g → Mergeable (storeOf e b n s keys table buffers) i t k
-  insert-merging {i} {t} {m} {g} q = says (Merged i t m g) q
+    pub hold-asks : {i j : ℕ} → a ≡ Buffered i j → Holding b table buffers i j k
+    unfolding entryOf
+    hold-asks {i} {j} q =
+        let w : Holdable σ i j k = says (Buffered i j) q in
+        let slots : i * b + entryIn σ i .held < s * b = omega (arith, slot-inside b (w .inside) (w .free)) in
+        let all : s * b ≤ 524288 = mul-le-mul (w .limits .s-most) (w .limits .b-most) in
+        record {
+          row = omega (arith, w .limits, w .inside);
+          few = omega (arith, w .limits, w .free);
+          room = omega (arith, w .limits, slots);
+          small = omega (arith, slots, all);
+          place = w .place;
+        }
 
-  pub insert-answer : {v : Inserted} → a ≡ v → v ≡ insertOf (storeOf e b n s keys table buffers) k
-  insert-answer q = sym q ∙ decided
+    pub join-asks : {i t m g : ℕ} → a ≡ Merged i t m g → Mergeable (storeOf e b n s keys table buffers) i t k
+    join-asks {i} {t} {m} {g} q = says (Merged i t m g) q
 
 -- what is held is the entry's
 module _ (b n s : ℕ) (table buffers : List ℕ) (i k : ℕ) where
@@ -138,3 +136,20 @@ module _ (b n s : ℕ) (table buffers : List ℕ) (i k : ℕ) where
   pub insert-put : {S : List ℕ} → S ≡ putSlots (i * b) (getD table (5 * i + 4) 0) k buffers → S ≡ putSlots (i * b) (entryOf n s table i .held) k buffers
   unfolding entryOf
   insert-put is = is
+
+-- what is left by an answer is what is left by the case that it is
+module _ (σ : Store) (k : ℕ) {a v : Inserted} (is : a ≡ v) {l : List ℕ} where
+  pub keys-by : l ≡ keysBy v σ k → l ≡ keysBy a σ k
+  keys-by left = left ∙ ap (λ (a : Inserted). keysBy a σ k) (sym is)
+
+  pub table-by : l ≡ tableBy v σ k → l ≡ tableBy a σ k
+  table-by left = left ∙ ap (λ (a : Inserted). tableBy a σ k) (sym is)
+
+  pub slots-by : l ≡ buffersBy v σ k → l ≡ buffersBy a σ k
+  slots-by left = left ∙ ap (λ (a : Inserted). buffersBy a σ k) (sym is)
+
+pub ruleset table-cases = (table-by, insert-held)
+
+pub ruleset slots-cases = (slots-by, insert-put)
+
+pub ruleset carry-cases = (hold-asks, join-asks)

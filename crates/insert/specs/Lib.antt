@@ -1,3 +1,4 @@
 pub mod Insert
 pub mod Cells
 pub mod Decide
+pub mod Due

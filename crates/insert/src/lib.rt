@@ -13,6 +13,7 @@ ghost use Rattle.table.specs.Store.{storeOf};
 ghost use Rattle.table.specs.Entries.{Row};
 ghost use Rattle.insert.specs.Insert.{insertOf, placedFor, mergeFor};
 ghost use Rattle.insert.specs.Cells.{keysBy, tableBy, buffersBy};
+ghost use Rattle.insert.specs.Due.{Due};
 ghost use Rattle.insert.specs.Decide.{passesOf, laterOf, roomedOf, soundFor, chosenFor, Counts, Keyed, Asked, Seated, Free, Fitting, Crowded};
 
 // ---- what is decided before anything is written
@@ -264,7 +265,40 @@ fn decide(
     Inserted::Refused(Refusal::Limits)
 }
 
-// ---- the call: what is then written is the crate `joining`
+// ---- the call
+
+// What was decided is written, by the crate `joining`.
+fn carry_out(
+    e: usize,
+    b: usize,
+    n: usize,
+    s: usize,
+    keys: &mut [u64],
+    table: &mut [u64],
+    buffers: &mut [u64],
+    k: u64,
+    a: Inserted,
+)
+    requires { ⌜ Due (storeOf e b n s (now keys) (now table) (now buffers)) k a ⌝ }
+    ensures keys { λ r. ⌜ now (keys .exit) ≡ keysBy a (storeOf e b n s (now (keys .entry)) (now (table .entry)) (now (buffers .entry))) k ⌝ }
+    ensures table { λ r. ⌜ now (table .exit) ≡ tableBy a (storeOf e b n s (now (keys .entry)) (now (table .entry)) (now (buffers .entry))) k ⌝ }
+    ensures buffers { λ r. ⌜ now (buffers .exit) ≡ buffersBy a (storeOf e b n s (now (keys .entry)) (now (table .entry)) (now (buffers .entry))) k ⌝ }
+{
+    match a {
+        Inserted::Buffered { segment, slot } => {
+            joining::hold(b, table, buffers, segment, slot, k);
+        }
+        Inserted::Merged {
+            segment,
+            pieces,
+            n: keys_now,
+            s: segments_now,
+        } => {
+            joining::join(e, b, n, s, keys, table, buffers, segment, pieces, k);
+        }
+        Inserted::Refused(r) => {}
+    }
+}
 
 // Inserts k. Refusals in this order: 1, 2, 9 (entry, buffer), 5, 9 (merge), 6, 7.
 pub fn insert(
@@ -283,20 +317,6 @@ pub fn insert(
     ensures buffers { λ r. ⌜ now (buffers .exit) ≡ buffersBy r (storeOf e b n s (now (keys .entry)) (now (table .entry)) (now (buffers .entry))) k ⌝ }
 {
     let decided = decide(e, b, n, s, keys, table, buffers, k);
-    match decided {
-        Inserted::Buffered { segment, slot } => {
-            joining::hold(b, table, buffers, segment, slot, k);
-            Inserted::Buffered { segment, slot }
-        }
-        Inserted::Merged {
-            segment,
-            pieces,
-            n: keys_now,
-            s: segments_now,
-        } => {
-            joining::join(e, b, n, s, keys, table, buffers, segment, pieces, k);
-            decided
-        }
-        Inserted::Refused(r) => Inserted::Refused(r),
-    }
+    carry_out(e, b, n, s, keys, table, buffers, k, decided);
+    decided
 }

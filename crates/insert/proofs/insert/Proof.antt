@@ -1,5 +1,5 @@
 use borrow.Author.Needs.{needs}
-use Rattle.insert.proofs.Due.{insert-holding, insert-merging, insert-answer, insert-held, insert-put}
+use Rattle.insert.proofs.Due.{insert-due}
 use Rattle.insert.proofs.insert.Statement.{statement}
 use Rattle.insert.proofs.insert.Tie as tie
 
@@ -8,20 +8,8 @@ insert-spec =
     tie.close
     (tie.spec
     (λ c κs. search needs)  -- decide-requires
-    (λ c. search needs)  -- enum-known-decided
-    (λ c κs. insert-holding _ _ _ _ _ _ _ _ (c .before .before .before .before .before .decide .ensures) (c .before .before .before .decided .given .1))  -- hold-requires
-    (λ c. search needs)  -- enum-known-decided-2
-    (λ c κs. insert-merging _ _ _ _ _ _ _ _ (c .before .before .before .before .before .before .decide .ensures) (c .before .before .before .before .decided2 .given .1))  -- join-requires
-    (λ c. search needs)  -- enum-known-decided-3
+    (λ c κs. search (insert-due, needs))  -- carry-out-requires
     (λ c. search needs)  -- same-length
     (λ c. search needs)  -- same-length-2
     (λ c. search needs)  -- same-length-3
-    (λ c. (search (insert-answer, c .before .before .before .before .before .before .before .before .before .before .decide .ensures, c .before .before .before .before .before .before .before .before .decided .given .1), (search needs, (search (insert-held, needs), search (insert-put, needs)))))  -- returns
-    (λ c. search needs)  -- same-length-4
-    (λ c. search needs)  -- same-length-5
-    (λ c. search needs)  -- same-length-6
-    (λ c. (search (insert-answer, c .before .before .before .before .before .before .before .before .before .before .before .before .before .decide .ensures, c .before .before .before .before .before .before .before .before .before .before .before .decided2 .given .1), (search needs, (search needs, search needs))))  -- returns-2
-    (λ c. search needs)  -- same-length-7
-    (λ c. search needs)  -- same-length-8
-    (λ c. search needs)  -- same-length-9
-    (λ c. (search (insert-answer, c .before .before .before .decide .ensures, c .before .decided3 .given .1), (search needs, (search needs, search needs)))))
+    (λ c. search needs))
