@@ -152,9 +152,6 @@ module _ (l : List ℕ) (e b n s : ℕ) (w : Told l e b n s) where
   slots-is bs = rw parts-is (slots-are l b s (9 + 7 * n) 0 bs)
 
 module _ (l keys t bs : List ℕ) {a : Loaded} (decided : a ≡ loadOf l keys t bs) where
-  pub load-answered : {x : Loaded} → a ≡ x → x ≡ loadOf l keys t bs
-  load-answered q = sym q ∙ decided
-
   module _ {e b n s : ℕ} (q : a ≡ Store e b n s) where
     got : Taken l e b n s keys t bs
     got = taken l keys t bs e b n s (sym decided ∙ q)
@@ -171,13 +168,28 @@ module _ (l keys t bs : List ℕ) {a : Loaded} (decided : a ≡ loadOf l keys t 
           slots = got .roomy .slots;
         }
 
-    pub keys-loaded : {c : List ℕ} → c ≡ over keys 0 (keysAt l n 9) → c ≡ keysBy (Store e b n s) l keys
-    keys-loaded g = g ∙ ap (over keys 0) (sym (run-is l e b n s (got .told)))
+    pub keys-loaded : {c : List ℕ} → c ≡ over keys 0 (keysAt l n 9) → c ≡ keysBy a l keys
+    keys-loaded g = g ∙ ap (over keys 0) (sym (run-is l e b n s (got .told))) ∙ ap (λ (a : Loaded). keysBy a l keys) (sym q)
 
-    pub table-loaded : {c : List ℕ} → c ≡ over t 0 (rowsAt l s (9 + 7 * n)) → c ≡ tableBy (Store e b n s) l t
-    table-loaded g = g ∙ ap (over t 0) (sym (rows-is l e b n s (got .told)))
+    pub table-loaded : {c : List ℕ} → c ≡ over t 0 (rowsAt l s (9 + 7 * n)) → c ≡ tableBy a l t
+    table-loaded g = g ∙ ap (over t 0) (sym (rows-is l e b n s (got .told))) ∙ ap (λ (a : Loaded). tableBy a l t) (sym q)
 
-    pub buffers-loaded : {c : List ℕ} → c ≡ slotsAt l b s (9 + 7 * n) 0 bs → c ≡ buffersBy (Store e b n s) l bs
-    buffers-loaded g = g ∙ sym (slots-is l e b n s (got .told) bs)
+    pub buffers-loaded : {c : List ℕ} → c ≡ slotsAt l b s (9 + 7 * n) 0 bs → c ≡ buffersBy a l bs
+    buffers-loaded g = g ∙ sym (slots-is l e b n s (got .told) bs) ∙ ap (λ (a : Loaded). buffersBy a l bs) (sym q)
 
-pub ruleset load-cases = (load-answered, fill-asks, keys-loaded, table-loaded, buffers-loaded)
+-- a refusal leaves every cell as it was
+module _ (l : List ℕ) {a : Loaded} {r : Refusal} (q : a ≡ Refused r) (c : List ℕ) where
+  pub keys-left : c ≡ keysBy a l c
+  keys-left = ap (λ (a : Loaded). keysBy a l c) (sym q)
+
+  pub table-left : c ≡ tableBy a l c
+  table-left = ap (λ (a : Loaded). tableBy a l c) (sym q)
+
+  pub buffers-left : c ≡ buffersBy a l c
+  buffers-left = ap (λ (a : Loaded). buffersBy a l c) (sym q)
+
+pub ruleset keys-by = (keys-loaded, keys-left)
+
+pub ruleset table-by = (table-loaded, table-left)
+
+pub ruleset buffers-by = (buffers-loaded, buffers-left)

@@ -55,6 +55,21 @@ fn decide(image: &[u8], keys: &[u64], table: &[u64], buffers: &[u64]) -> Loaded
     }
 }
 
+// What was decided is read into the cells.
+fn carry_out(image: &[u8], keys: &mut [u64], table: &mut [u64], buffers: &mut [u64], a: Loaded)
+    requires { ⌜ a ≡ loadOf (now image) (now keys) (now table) (now buffers) ⌝ }
+    ensures keys { λ r. ⌜ now (keys .exit) ≡ keysBy a (now (image .entry)) (now (keys .entry)) ⌝ }
+    ensures table { λ r. ⌜ now (table .exit) ≡ tableBy a (now (image .entry)) (now (table .entry)) ⌝ }
+    ensures buffers { λ r. ⌜ now (buffers .exit) ≡ buffersBy a (now (image .entry)) (now (buffers .entry)) ⌝ }
+{
+    match a {
+        Loaded::Store { e, b, n, s } => {
+            image_fill::fill(image, b, n, s, keys, table, buffers);
+        }
+        Loaded::Refused(r) => {}
+    }
+}
+
 // Reads an image of the first edition into the slices: refusals 10 (head), 1, 10 (rest), 6, 7; else exactly the used cells are set.
 pub fn read_image(image: &[u8], keys: &mut [u64], table: &mut [u64], buffers: &mut [u64]) -> Loaded
     ensures answered { λ r. ⌜ r ≡ loadOf (now (image .entry)) (now (keys .entry)) (now (table .entry)) (now (buffers .entry)) ⌝ }
@@ -62,12 +77,7 @@ pub fn read_image(image: &[u8], keys: &mut [u64], table: &mut [u64], buffers: &m
     ensures table { λ r. ⌜ now (table .exit) ≡ tableBy r (now (image .entry)) (now (table .entry)) ⌝ }
     ensures buffers { λ r. ⌜ now (buffers .exit) ≡ buffersBy r (now (image .entry)) (now (buffers .entry)) ⌝ }
 {
-    let a = decide(image, keys, table, buffers);
-    match a {
-        Loaded::Store { e, b, n, s } => {
-            image_fill::fill(image, b, n, s, keys, table, buffers);
-            Loaded::Store { e, b, n, s }
-        }
-        Loaded::Refused(r) => Loaded::Refused(r),
-    }
+    let decided = decide(image, keys, table, buffers);
+    carry_out(image, keys, table, buffers, decided);
+    decided
 }

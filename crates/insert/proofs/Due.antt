@@ -32,9 +32,13 @@ use Rattle.answers.specs.declared.Inserted.the-variants.{Buffered, Merged, Refu
 use Rattle.joining.specs.Merged.{mergedWith, piecesOf, laterOk}
 use Rattle.insert.specs.Insert.{roomFor, laterFor, mergeFor, placedFor, unlessFound, segmentFor, insertOf}
 use Rattle.insert.specs.Cells.{keysBy, tableBy, buffersBy}
-use Rattle.insert.specs.Due.{Due}
 use Rattle.joining.specs.Cells.{putSlots}
 use Rattle.joining.specs.Write.{Holding, Holdable, Mergeable}
+
+abbrev pub Due : Store → ℕ → Inserted → Type 0
+Due σ k (Buffered i j) = Holdable σ i j k
+Due σ k (Merged i t n s) = Mergeable σ i t k
+Due σ k (Refused r) = Unit
 
 module _ (σ : Store) (k i : ℕ) (limits : Limits σ) (inside : i < σ .s) (sound : Sound (σ .b) (σ .n) (entryIn σ i)) where
   due-room : σ .b ≤ entryIn σ i .held + 1 → Up 0 keyLimit (mergedWith σ i k) → failsOf (laterOk σ) (suc i) (σ .s - suc i) ≡ Nothing → Due σ k (roomFor σ i k)
@@ -97,35 +101,31 @@ due σ k =
     (λ v. tt))
     (λ u. tt)
 
--- ---- the call
+-- ---- what was decided, carried out
 
-module _ (e b n s : ℕ) (keys table buffers : List ℕ) (k : ℕ) where
+module _ (e b n s : ℕ) (keys table buffers : List ℕ) (k : ℕ) {a : Inserted} (decided : a ≡ insertOf (storeOf e b n s keys table buffers) k) where
   abbrev σ : Store
   σ = storeOf e b n s keys table buffers
 
-  pub insert-due : {a : Inserted} → a ≡ insertOf (storeOf e b n s keys table buffers) k → Due (storeOf e b n s keys table buffers) k a
-  insert-due decided = rw (sym decided) at (due σ k)
+  says : (v : Inserted) → a ≡ v → Due σ k v
+  says v q = rw (sym decided ∙ q) at (due σ k)
 
-  module _ {a : Inserted} (asks : Due (storeOf e b n s keys table buffers) k a) where
-    says : (v : Inserted) → a ≡ v → Due σ k v
-    says v q = rw q at asks
+  pub hold-asks : {i j : ℕ} → a ≡ Buffered i j → Holding b table buffers i j k
+  unfolding entryOf
+  hold-asks {i} {j} q =
+      let w : Holdable σ i j k = says (Buffered i j) q in
+      let slots : i * b + entryIn σ i .held < s * b = omega (arith, slot-inside b (w .inside) (w .free)) in
+      let all : s * b ≤ 524288 = mul-le-mul (w .limits .s-most) (w .limits .b-most) in
+      record {
+        row = omega (arith, w .limits, w .inside);
+        few = omega (arith, w .limits, w .free);
+        room = omega (arith, w .limits, slots);
+        small = omega (arith, slots, all);
+        place = w .place;
+      }
 
-    pub hold-asks : {i j : ℕ} → a ≡ Buffered i j → Holding b table buffers i j k
-    unfolding entryOf
-    hold-asks {i} {j} q =
-        let w : Holdable σ i j k = says (Buffered i j) q in
-        let slots : i * b + entryIn σ i .held < s * b = omega (arith, slot-inside b (w .inside) (w .free)) in
-        let all : s * b ≤ 524288 = mul-le-mul (w .limits .s-most) (w .limits .b-most) in
-        record {
-          row = omega (arith, w .limits, w .inside);
-          few = omega (arith, w .limits, w .free);
-          room = omega (arith, w .limits, slots);
-          small = omega (arith, slots, all);
-          place = w .place;
-        }
-
-    pub join-asks : {i t m g : ℕ} → a ≡ Merged i t m g → Mergeable (storeOf e b n s keys table buffers) i t k
-    join-asks {i} {t} {m} {g} q = says (Merged i t m g) q
+  pub join-asks : {i t m g : ℕ} → a ≡ Merged i t m g → Mergeable (storeOf e b n s keys table buffers) i t k
+  join-asks {i} {t} {m} {g} q = says (Merged i t m g) q
 
 -- what is held is the entry's
 module _ (b n s : ℕ) (table buffers : List ℕ) (i k : ℕ) where

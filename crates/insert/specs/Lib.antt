@@ -1,4 +1,3 @@
 pub mod Insert
 pub mod Cells
 pub mod Decide
-pub mod Due

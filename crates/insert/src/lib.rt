@@ -13,7 +13,6 @@ ghost use Rattle.table.specs.Store.{storeOf};
 ghost use Rattle.table.specs.Entries.{Row};
 ghost use Rattle.insert.specs.Insert.{insertOf, placedFor, mergeFor};
 ghost use Rattle.insert.specs.Cells.{keysBy, tableBy, buffersBy};
-ghost use Rattle.insert.specs.Due.{Due};
 ghost use Rattle.insert.specs.Decide.{passesOf, laterOf, roomedOf, soundFor, chosenFor, Counts, Keyed, Asked, Seated, Free, Fitting, Crowded};
 
 // ---- what is decided before anything is written
@@ -279,7 +278,7 @@ fn carry_out(
     k: u64,
     a: Inserted,
 )
-    requires { ⌜ Due (storeOf e b n s (now keys) (now table) (now buffers)) k a ⌝ }
+    requires { ⌜ a ≡ insertOf (storeOf e b n s (now keys) (now table) (now buffers)) k ⌝ }
     ensures keys { λ r. ⌜ now (keys .exit) ≡ keysBy a (storeOf e b n s (now (keys .entry)) (now (table .entry)) (now (buffers .entry))) k ⌝ }
     ensures table { λ r. ⌜ now (table .exit) ≡ tableBy a (storeOf e b n s (now (keys .entry)) (now (table .entry)) (now (buffers .entry))) k ⌝ }
     ensures buffers { λ r. ⌜ now (buffers .exit) ≡ buffersBy a (storeOf e b n s (now (keys .entry)) (now (table .entry)) (now (buffers .entry))) k ⌝ }

@@ -12,4 +12,4 @@ fill-spec =
     (λ c. search (image-cases, needs))  -- same-length
     (λ c. search (image-cases, needs))  -- same-length-2
     (λ c. search (image-cases, needs))  -- same-length-3
-    (λ c. (c .before .before .before .before .before .before .before .before .before .fill-keys .ensures .1, (table-filled _ _ _ _ (c .before .before .before .before .before .before .before .before .before .fill-keys .ensures .0) (c .before .before .before .before .fill-pieces .ensures .0), slots-filled _ _ _ _ _ (c .before .before .before .before .before .before .before .before .before .fill-keys .ensures .0) (c .before .before .before .before .fill-pieces .ensures .1)))))
+    (λ c. (search needs, (search (table-filled, needs), search (slots-filled, needs)))))

@@ -1,5 +1,4 @@
 use borrow.Author.Needs.{needs}
-use Rattle.insert.proofs.Due.{insert-due}
 use Rattle.insert.proofs.insert.Statement.{statement}
 use Rattle.insert.proofs.insert.Tie as tie
 
@@ -8,7 +7,7 @@ insert-spec =
     tie.close
     (tie.spec
     (λ c κs. search needs)  -- decide-requires
-    (λ c κs. search (insert-due, needs))  -- carry-out-requires
+    (λ c κs. search needs)  -- carry-out-requires
     (λ c. search needs)  -- same-length
     (λ c. search needs)  -- same-length-2
     (λ c. search needs)  -- same-length-3
