@@ -19,7 +19,7 @@ use Rattle.records.specs.First.{first}
 use Rattle.records.specs.Stores.{singlesIn, rowIn, partsIn, imageIn}
 use Rattle.lists.specs.Over.{over, Space, Writing}
 use Rattle.lists.proofs.Over.{length-over, over-append, writing-start, writing-step, writing-end, writing-place}
-use Rattle.image_put.specs.Pieces.{byteBytes, keyBytes, keysBytes, headBytes, segmentBytes, rowBytes, pieceBytes, piecesBytes, endBytes, KeysRoom, RowRoom, PieceRoom, PiecesRoom, ImageRoom}
+use Rattle.image_put.specs.Pieces.{byteBytes, pairBytes, lineBytes, keyBytes, keysBytes, headBytes, segmentBytes, rowBytes, pieceBytes, piecesBytes, endBytes, KeysRoom, RowRoom, PieceRoom, PiecesRoom, ImageRoom}
 
 -- ---- lengths
 pub key-length : (kind x : ℕ) → length (keyBytes kind x) ≡ 7
@@ -59,37 +59,58 @@ module _ (l : List ℕ) (at kind x : ℕ) where
 
 pub ruleset key-cases = (key-place, key-written)
 
+pair-length : (x y : ℕ) → length (pairBytes x y) ≡ 4
+unfolding pairBytes
+pair-length x y = simp (length-append, number-length)
+
+line-length : (base rise run : ℕ) → length (lineBytes base rise run) ≡ 10
+unfolding lineBytes
+line-length base rise run = simp (length-append, number-length, pair-length)
+
+pub pair-written : (l : List ℕ) (at x y : ℕ) {l₁ l₂ : List ℕ} → l₁ ≡ over l at (numberBytes 2 x) → l₂ ≡ over l₁ (at + 2) (numberBytes 2 y) → l₂ ≡ over l at (pairBytes x y)
+unfolding pairBytes
+pair-written l at x y e f = joined l at (numberBytes 2 x) e (at + 2) (numberBytes 2 y) f (simp number-length)
+
+pub line-written : (l : List ℕ) (at base rise run : ℕ) {l₁ l₂ : List ℕ} → l₁ ≡ over l at (pairBytes base rise) → l₂ ≡ over l₁ (at + 4) (numberBytes 6 run)
+    → l₂ ≡ over l at (lineBytes base rise run)
+unfolding lineBytes
+line-written l at base rise run e f = joined l at (pairBytes base rise) e (at + 4) (numberBytes 6 run) f (simp pair-length)
+
+byte-length : (x : ℕ) → length (byteBytes x) ≡ 1
+unfolding byteBytes
+byte-length x = refl
+
+head-is : (e b n s : ℕ) → (byteBytes 1 ++ pairBytes e b) ++ pairBytes n s ≡ headBytes e b n s
+unfolding byteBytes pairBytes headBytes recordBytes fieldBytes
+head-is e b n s = simp (append-assoc, append-nil)
+
 module _ (l : List ℕ) (e b n s : ℕ) where
   pub head-place : 9 ≡ 0 + length (headBytes e b n s)
   head-place = rw (head-length e b n s)
 
-  pub head-written : {l₁ l₂ l₃ l₄ l₅ : List ℕ} → l₁ ≡ over l 0 (byteBytes 1) → l₂ ≡ over l₁ 1 (numberBytes 2 e) → l₃ ≡ over l₂ 3 (numberBytes 2 b)
-      → l₄ ≡ over l₃ 5 (numberBytes 2 n) → l₅ ≡ over l₄ 7 (numberBytes 2 s) → l₅ ≡ over l 0 (headBytes e b n s)
-  unfolding byteBytes headBytes recordBytes fieldBytes
-  head-written f₁ f₂ f₃ f₄ f₅ =
-      let g₂ : _ = joined l 0 (1 ∷ []) f₁ 1 (numberBytes 2 e) f₂ refl in
-      let g₃ : _ = joined l 0 _ g₂ 3 (numberBytes 2 b) f₃ (simp number-length) in
-      let g₄ : _ = joined l 0 _ g₃ 5 (numberBytes 2 n) f₄ (simp (length-append, number-length)) in
-      let g₅ : _ = joined l 0 _ g₄ 7 (numberBytes 2 s) f₅ (simp (length-append, number-length)) in
-      simp append-nil (simp append-assoc at g₅)
+  pub head-written : {l₁ l₂ l₃ : List ℕ} → l₁ ≡ over l 0 (byteBytes 1) → l₂ ≡ over l₁ 1 (pairBytes e b) → l₃ ≡ over l₂ 5 (pairBytes n s) → l₃ ≡ over l 0 (headBytes e b n s)
+  head-written f₁ f₂ f₃ =
+      let g₂ : _ = joined l 0 (byteBytes 1) f₁ 1 (pairBytes e b) f₂ (rw (byte-length 1)) in
+      joined l 0 _ g₂ 5 (pairBytes n s) f₃ (simp (length-append, byte-length, pair-length)) ∙ ap (over l 0) (head-is e b n s)
 
 pub ruleset head-cases = (head-place, head-written)
+
+five-fields : (a b c d h : List ℕ) → ((a ++ []) ++ ((b ++ c) ++ d)) ++ h ≡ a ++ (b ++ (c ++ (d ++ (h ++ []))))
+five-fields a b c d h = simp (append-assoc, append-nil)
+
+segment-is : (x base rise run held : ℕ) → (keyBytes 3 x ++ lineBytes base rise run) ++ numberBytes 1 held ≡ segmentBytes x base rise run held
+unfolding keyBytes lineBytes pairBytes segmentBytes recordBytes fieldBytes
+segment-is x base rise run held = ap (λ (l : List ℕ). 3 ∷ l) (five-fields (numberBytes 6 x) (numberBytes 2 base) (numberBytes 2 rise) (numberBytes 6 run) (numberBytes 1 held))
 
 module _ (l : List ℕ) (at x base rise run held : ℕ) where
   pub segment-place : at + 18 ≡ at + length (segmentBytes x base rise run held)
   segment-place = rw (segment-length x base rise run held)
 
-  pub segment-written : {l₁ l₂ l₃ l₄ l₅ l₆ : List ℕ} → l₁ ≡ over l at (byteBytes 3) → l₂ ≡ over l₁ (at + 1) (numberBytes 6 x) → l₃ ≡ over l₂ (at + 7) (numberBytes 2 base)
-      → l₄ ≡ over l₃ (at + 9) (numberBytes 2 rise) → l₅ ≡ over l₄ (at + 11) (numberBytes 6 run) → l₆ ≡ over l₅ (at + 17) (numberBytes 1 held)
-      → l₆ ≡ over l at (segmentBytes x base rise run held)
-  unfolding byteBytes segmentBytes recordBytes fieldBytes
-  segment-written f₁ f₂ f₃ f₄ f₅ f₆ =
-      let g₂ : _ = joined l at (3 ∷ []) f₁ (at + 1) (numberBytes 6 x) f₂ refl in
-      let g₃ : _ = joined l at _ g₂ (at + 7) (numberBytes 2 base) f₃ (simp number-length) in
-      let g₄ : _ = joined l at _ g₃ (at + 9) (numberBytes 2 rise) f₄ (simp (length-append, number-length)) in
-      let g₅ : _ = joined l at _ g₄ (at + 11) (numberBytes 6 run) f₅ (simp (length-append, number-length)) in
-      let g₆ : _ = joined l at _ g₅ (at + 17) (numberBytes 1 held) f₆ (simp (length-append, number-length)) in
-      simp append-nil (simp append-assoc at g₆)
+  pub segment-written : {l₁ l₂ l₃ : List ℕ} → l₁ ≡ over l at (keyBytes 3 x) → l₂ ≡ over l₁ (at + 7) (lineBytes base rise run) → l₃ ≡ over l₂ (at + 17) (numberBytes 1 held)
+      → l₃ ≡ over l at (segmentBytes x base rise run held)
+  segment-written f₁ f₂ f₃ =
+      let g₂ : _ = joined l at (keyBytes 3 x) f₁ (at + 7) (lineBytes base rise run) f₂ (rw (key-length 3 x)) in
+      joined l at _ g₂ (at + 17) (numberBytes 1 held) f₃ (simp (length-append, key-length, line-length)) ∙ ap (over l at) (segment-is x base rise run held)
 
 pub ruleset segment-cases = (segment-place, segment-written)
 

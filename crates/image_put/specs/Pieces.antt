@@ -3,6 +3,7 @@ use mathlib.Core.List.{List, [], _∷_, _++_}
 use Prim.Native.Nat.{ℕ, _+_, _*_, _≤_, _<_}
 use lib.ListN.{length, getD}
 use Rattle.terms.specs.Limits.{bMost, sMost}
+use Rattle.little.specs.Little.{numberBytes}
 use Rattle.table.specs.Store.{Store}
 use Rattle.table.specs.Limits.{Limits}
 use Rattle.records.specs.Records.{shape, recordBytes, manyBytes}
@@ -12,6 +13,12 @@ use Rattle.records.specs.Stores.{singlesIn, rowIn, partsIn, imageIn}
 
 unfoldable pub byteBytes : ℕ → List ℕ
 byteBytes x = x ∷ []
+
+unfoldable pub pairBytes : ℕ → ℕ → List ℕ
+pairBytes x y = numberBytes 2 x ++ numberBytes 2 y
+
+unfoldable pub lineBytes : ℕ → ℕ → ℕ → List ℕ
+lineBytes base rise run = pairBytes base rise ++ numberBytes 6 run
 
 unfoldable pub keyBytes : ℕ → ℕ → List ℕ
 keyBytes kind x = recordBytes (shape kind (6 ∷ [])) (x ∷ [])

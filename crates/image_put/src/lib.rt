@@ -8,7 +8,7 @@ ghost use Rattle.records.specs.Images.{imageBytes};
 ghost use Rattle.records.specs.First.{first};
 ghost use Rattle.records.specs.Stores.{imageIn};
 ghost use Rattle.lists.specs.Over.{over, Space};
-ghost use Rattle.image_put.specs.Pieces.{byteBytes, keyBytes, keysBytes, headBytes, segmentBytes, rowBytes, pieceBytes, piecesBytes, endBytes, KeysRoom, RowRoom, PieceRoom, PiecesRoom, ImageRoom};
+ghost use Rattle.image_put.specs.Pieces.{byteBytes, pairBytes, lineBytes, keyBytes, keysBytes, headBytes, segmentBytes, rowBytes, pieceBytes, piecesBytes, endBytes, KeysRoom, RowRoom, PieceRoom, PiecesRoom, ImageRoom};
 
 // Stored by a call, after which the length of the slice is known.
 fn byte(dst: &mut [u8], at: usize, x: u8)
@@ -46,6 +46,15 @@ fn put_keys(dst: &mut [u8], at: usize, kind: u8, cells: &[u64], from: usize, cou
     p
 }
 
+// Two numbers of two bytes.
+fn put_pair(dst: &mut [u8], at: usize, x: u64, y: u64)
+    requires { ⌜ Space (now dst) at 4 ⌝ }
+    ensures { λ _. ⌜ now (dst .exit) ≡ over (now (dst .entry)) at (pairBytes x y) ⌝ }
+{
+    little::put(dst, at, 2, x);
+    little::put(dst, at + 2, 2, y);
+}
+
 // The head.
 fn put_head(dst: &mut [u8], e: u64, b: u64, n: u64, s: u64) -> usize
     requires { ⌜ Space (now dst) 0 9 ⌝ }
@@ -53,14 +62,21 @@ fn put_head(dst: &mut [u8], e: u64, b: u64, n: u64, s: u64) -> usize
     ensures cells { λ r. ⌜ now (dst .exit) ≡ over (now (dst .entry)) 0 (headBytes e b n s) ⌝ }
 {
     byte(dst, 0, 1);
-    little::put(dst, 1, 2, e);
-    little::put(dst, 3, 2, b);
-    little::put(dst, 5, 2, n);
-    little::put(dst, 7, 2, s);
+    put_pair(dst, 1, e, b);
+    put_pair(dst, 5, n, s);
     9
 }
 
-// A segment's record, of its five numbers.
+// A segment's base and line.
+fn put_line(dst: &mut [u8], at: usize, base: u64, rise: u64, run: u64)
+    requires { ⌜ Space (now dst) at 10 ⌝ }
+    ensures { λ _. ⌜ now (dst .exit) ≡ over (now (dst .entry)) at (lineBytes base rise run) ⌝ }
+{
+    put_pair(dst, at, base, rise);
+    little::put(dst, at + 4, 6, run);
+}
+
+// A segment's record, of its five numbers: it starts as a record of its first key would.
 fn put_segment(
     dst: &mut [u8],
     at: usize,
@@ -74,11 +90,8 @@ fn put_segment(
     ensures place { λ r. ⌜ r ≡ at + length (segmentBytes first base rise run held) ⌝ }
     ensures cells { λ r. ⌜ now (dst .exit) ≡ over (now (dst .entry)) at (segmentBytes first base rise run held) ⌝ }
 {
-    byte(dst, at, 3);
-    little::put(dst, at + 1, 6, first);
-    little::put(dst, at + 7, 2, base);
-    little::put(dst, at + 9, 2, rise);
-    little::put(dst, at + 11, 6, run);
+    put_key(dst, at, 3, first);
+    put_line(dst, at + 7, base, rise, run);
     little::put(dst, at + 17, 1, held);
     at + 18
 }
