@@ -11,10 +11,10 @@ use lib.ListN.{length, getD, take}
 use lib.Seq.{getD-take, length-take-le}
 use borrow.Author.Tests.{ltb-true, lt-ltb, le-ltb}
 use Rattle.lists.specs.Tests.{imp}
-use Rattle.lists.specs.Rising.{Up}
 use Rattle.lists.proofs.Tests.{both-true, true-both, imp-true, true-imp, either, is-false, clash}
 use Rattle.lists.proofs.Rising.{neighbours-up}
-use Rattle.terms.specs.Limits.{keyLimit, eMost, nMost}
+use Rattle.terms.specs.Limits.{eMost, nMost}
+use Rattle.terms.specs.Keys.{isKey, RisingKeys}
 use Rattle.scan.specs.declared.Found.the-variants.{At, Nothing}
 use Rattle.scan.specs.Scan.{failsOf}
 use Rattle.scan.specs.Meaning.{Lowest, Scanned}
@@ -27,7 +27,7 @@ use Rattle.build.specs.Build.{goodOf, Good, faultOf}
 
 module _ (keys : List ℕ) (p : ℕ) where
   abbrev isSmall : Bool
-  isSmall = ltb (getD keys p 0) keyLimit
+  isSmall = isKey (getD keys p 0)
 
   abbrev isAbove : Bool
   isAbove = ltb (getD keys (p - 1) 0) (getD keys p 0)
@@ -44,7 +44,7 @@ module _ (keys : List ℕ) (p : ℕ) where
       true-both isSmall (imp (ltb 0 p) isAbove) (lt-ltb _ _ (g .small)) (true-imp (ltb 0 p) isAbove (λ s. lt-ltb _ _ (g .above (ltb-true _ _ s))))
 
   -- as the code answers
-  module _ {r : Bool} (tested : r ≡ ltb (getD keys p 0) keyLimit) where
+  module _ {r : Bool} (tested : r ≡ isKey (getD keys p 0)) where
     pub good-later : r ≡ true → 0 < p → ltb (getD keys (p - 1) 0) (getD keys p 0) ≡ goodOf keys p
     unfolding goodOf
     good-later q h = simp (sym tested ∙ q, lt-ltb _ _ h)
@@ -118,10 +118,10 @@ module _ (keys : List ℕ) (n : ℕ) where
   fault-not-good {p} at good = clash (sym (true-good keys p good) ∙ fault-lowest at .holds)
 
 -- the first n keys rise
-pub good-up : (keys : List ℕ) (n : ℕ) → n ≤ length keys → ((q : ℕ) → q < n → Good keys q) → Up 0 keyLimit (take n keys)
+pub good-up : (keys : List ℕ) (n : ℕ) → n ≤ length keys → ((q : ℕ) → q < n → Good keys q) → RisingKeys (take n keys)
 good-up keys n held good =
     let l : length (take n keys) ≡ n = length-take-le n keys held in
-    neighbours-up 0 keyLimit (take n keys) (λ h. omega arith)
+    neighbours-up 0 _ (take n keys) (λ h. omega arith)
     (λ i h. rw (getD-take n keys i 0 (omega arith)) (good i (omega arith) .small))
     (λ i h.
     let m : suc i - 1 ≡ i = omega arith in

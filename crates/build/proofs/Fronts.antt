@@ -10,7 +10,8 @@ use lib.Dec.{ltb, eqb}
 use lib.ListN.{length, getD}
 use borrow.Author.Tests.{ltb-true, ltb-false, lt-ltb, eqb-true, eqb-false}
 use Rattle.lists.proofs.Tests.{all-each, each-all, either, is-false}
-use Rattle.terms.specs.Limits.{keyLimit}
+use Rattle.terms.specs.Keys.{isKey}
+use Rattle.terms.proofs.Keys.{key-true}
 use Rattle.scan.specs.Scan.{failsOf}
 use Rattle.build.specs.Build.{goodOf, faultOf, Held}
 use Rattle.build.specs.Fronts.{FourHeld, fours, fourOf, Four, Front, GoodFront}
@@ -98,14 +99,14 @@ below-last keys n p front (suc d) q h =
 pub good-none : (keys : List ℕ) (n : ℕ) → GoodFront keys n 0
 good-none keys n = record { inside = omega arith; good = λ q h. absurd (omega arith) }
 
-pub good-some : (keys : List ℕ) (n p : ℕ) → Front keys n p → 1 ≤ p → {w : Bool} → w ≡ ltb (getD keys (p - 1) 0) keyLimit → w ≡ true → GoodFront keys n p
+pub good-some : (keys : List ℕ) (n p : ℕ) → Front keys n p → 1 ≤ p → {w : Bool} → w ≡ isKey (getD keys (p - 1) 0) → w ≡ true → GoodFront keys n p
 good-some keys n p front some test told =
     record {
       inside = front .inside;
       good = λ q h.
           let e : q + (p - 1 - q) ≡ p - 1 = omega arith in
           let b : getD keys q 0 ≤ getD keys (p - 1) 0 = rw e at (below-last keys n p front (p - 1 - q) q (omega arith)) in
-          record { small = omega (arith, b, ltb-true (getD keys (p - 1) 0) keyLimit (sym test ∙ told)); above = λ a. front .rises q a h };
+          record { small = omega (arith, b, key-true (getD keys (p - 1) 0) (sym test ∙ told)); above = λ a. front .rises q a h };
     }
 
 pub front-held : (keys : List ℕ) (n p : ℕ) → Front keys n p → Held keys n → 1 ≤ p → p - 1 < length keys

@@ -6,12 +6,12 @@ use mathlib.Core.List.{List}
 use Prim.Native.Nat.{ℕ, _+_, _-_, _*_, _/_, _≤_, _<_}
 use native.Mathlib.Nat.{le-div-iff-mul-le}
 use native.Mathlib.Omega.{arith}
-use lib.Dec.{leb, ltb}
+use lib.Dec.{leb}
 use lib.ListN.{length, getD, take}
 use lib.Seq.{length-take-le}
 use borrow.Author.Tests.{leb-true, le-leb}
 use Rattle.lists.proofs.Tests.{both-true, either}
-use Rattle.terms.specs.Limits.{keyLimit}
+use Rattle.terms.specs.Keys.{isKey}
 use Rattle.terms.specs.declared.Refusal.{Refusal}
 use Rattle.terms.specs.declared.Refusal.the-variants.{Limits, LargeKey, NotRising, SegmentRoom}
 use Rattle.scan.specs.declared.Found.{Found}
@@ -52,7 +52,7 @@ true-takes e b n keys t = simp (true-sized e b n (t .sized), le-leb _ _ (t .held
 
 -- ---- what is wrong with a key
 
-module _ (keys : List ℕ) (p : ℕ) {r : Bool} (tested : r ≡ ltb (getD keys p 0) keyLimit) where
+module _ (keys : List ℕ) (p : ℕ) {r : Bool} (tested : r ≡ isKey (getD keys p 0)) where
   pub wrong-rising : r ≡ true → NotRising (record { 0 = p }) ≡ wrongOf keys p
   unfolding wrongOf
   wrong-rising q = simp (sym tested ∙ q)

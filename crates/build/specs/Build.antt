@@ -6,7 +6,7 @@ use Prim.Native.Nat.{ℕ, _-_, _*_, _≤_, _<_}
 use lib.Dec.{ltb, leb}
 use lib.ListN.{length, getD, take, drop}
 use Rattle.lists.specs.Tests.{pick, both, imp}
-use Rattle.terms.specs.Limits.{keyLimit}
+use Rattle.terms.specs.Keys.{isKey, IsKey}
 use Rattle.terms.specs.declared.Refusal.{Refusal}
 use Rattle.terms.specs.declared.Refusal.the-variants.{Limits, LargeKey, NotRising, SegmentRoom}
 use Rattle.scan.specs.declared.Found.{Found}
@@ -31,10 +31,10 @@ pub record Takes (e b n : ℕ) (keys : List ℕ) : Type 0 where
 
 -- the key at p is below 2^44, and above the one before
 unfoldable pub goodOf : List ℕ → ℕ → Bool
-goodOf keys p = both (ltb (getD keys p 0) keyLimit) (imp (ltb 0 p) (ltb (getD keys (p - 1) 0) (getD keys p 0)))
+goodOf keys p = both (isKey (getD keys p 0)) (imp (ltb 0 p) (ltb (getD keys (p - 1) 0) (getD keys p 0)))
 
 pub record Good (keys : List ℕ) (p : ℕ) : Type 0 where
-  pub small : getD keys p 0 < keyLimit
+  pub small : IsKey (getD keys p 0)
   pub above : 0 < p → getD keys (p - 1) 0 < getD keys p 0
 
 -- the lowest faulty position among the first n
@@ -43,7 +43,7 @@ faultOf keys n = failsOf (goodOf keys) 0 n
 
 -- 2: "a key given is not below 2^44"; 3: "key not above the one before"; "2 before 3"
 unfoldable pub wrongOf : List ℕ → ℕ → Refusal
-wrongOf keys p = pick (ltb (getD keys p 0) keyLimit) (NotRising (record { 0 = p })) (LargeKey (record { 0 = p }))
+wrongOf keys p = pick (isKey (getD keys p 0)) (NotRising (record { 0 = p })) (LargeKey (record { 0 = p }))
 
 -- 7: "result needs more segments than segment room"
 abbrev pub roomedOf : ℕ → ℕ → Judged

@@ -8,9 +8,10 @@ use lib.Dec.{leb, ltb}
 use lib.ListN.{length, getD, take}
 use borrow.Author.Tests.{leb-true, leb-false, le-leb, lt-leb, ltb-true, ltb-false, lt-ltb, le-ltb}
 use Rattle.lists.proofs.Tests.{either, is-false, clash}
-use Rattle.terms.specs.Limits.{keyLimit}
+use Rattle.terms.specs.Keys.{isKey, IsKey}
 use Rattle.terms.specs.declared.Refusal.{Refusal}
 use Rattle.terms.specs.declared.Refusal.the-variants.{Limits, LargeKey, NotRising, SegmentRoom}
+use Rattle.terms.proofs.Keys.{key-false}
 use Rattle.scan.specs.declared.Found.{Found}
 use Rattle.scan.specs.declared.Found.the-variants.{At, Nothing}
 use Rattle.table.specs.Limits.{segmentRoom}
@@ -59,9 +60,9 @@ module _ (e b n : ℕ) (keys table buffers : List ℕ) where
   fault-means : Takes e b n keys → (p : ℕ) → faultOf keys n ≡ At p → Means built
   fault-means takes p at =
       let lowest : Lowest e b n keys p = record { takes = takes; given = fault-lowest keys n at .below; lower = lower-good keys n at } in
-      either (ltb (getD keys p 0) keyLimit)
+      either (isKey (getD keys p 0))
       (λ t.
-      let small : getD keys p 0 < keyLimit = ltb-true _ _ t in
+      let small : IsKey (getD keys p 0) = ltb-true _ _ t in
       subst Means (wrong-answer takes p (NotRising (record { 0 = p })) at (wrong-rising keys p refl t))
       (either (ltb 0 p)
       (λ u.
@@ -77,7 +78,7 @@ module _ (e b n : ℕ) (keys table buffers : List ℕ) where
       (λ u. absurd (fault-not-good keys n at (record { small = small; above = λ h. absurd (omega (arith, ltb-false 0 p u)) })))))
       (λ t.
       subst Means (wrong-answer takes p (LargeKey (record { 0 = p })) at (wrong-large keys p refl t))
-      (refused-2 (record { lowest = lowest; large = omega (arith, ltb-false (getD keys p 0) keyLimit t) })))
+      (refused-2 (record { lowest = lowest; large = omega (arith, key-false (getD keys p 0) t) })))
 
   none-means : Takes e b n keys → faultOf keys n ≡ Nothing → Means built
   none-means takes none =

@@ -4,7 +4,7 @@ use mathlib.Core.Path.{_≡_}
 use mathlib.Core.List.{List}
 use Prim.Native.Nat.{ℕ, _-_, _≤_, _<_}
 use lib.ListN.{length, getD, take}
-use Rattle.terms.specs.Limits.{keyLimit}
+use Rattle.terms.specs.Keys.{IsKey, NoKey}
 use Rattle.terms.specs.declared.Refusal.the-variants.{Limits, LargeKey, NotRising, SegmentRoom}
 use Rattle.table.specs.Limits.{segmentRoom}
 use Rattle.cone.specs.Rule.{cut}
@@ -21,12 +21,12 @@ pub record Lowest (e b n : ℕ) (keys : List ℕ) (p : ℕ) : Type 0 where
 -- 2: "a key given is not below 2^44", place: its position
 pub record Large (e b n : ℕ) (keys : List ℕ) (p : ℕ) : Type 0 where
   pub lowest : Lowest e b n keys p
-  pub large : keyLimit ≤ getD keys p 0
+  pub large : NoKey (getD keys p 0)
 
 -- 3: "key not above the one before", place: its position; 2 before 3, so the key is below 2^44
 pub record Falls (e b n : ℕ) (keys : List ℕ) (p : ℕ) : Type 0 where
   pub lowest : Lowest e b n keys p
-  pub small : getD keys p 0 < keyLimit
+  pub small : IsKey (getD keys p 0)
   pub later : 0 < p
   pub not-above : getD keys p 0 ≤ getD keys (p - 1) 0
 

@@ -1,12 +1,12 @@
 // A call made on both sides, compared and reported.
 use crate::lend::lend;
-use asked::call::Asked;
-use asked::call::Call;
-use asked::call::in_numbers;
-use asked::side::Side;
-use asked::side::same;
-use draws::store::Store;
-use tally::report;
+use compare_asked::call::Asked;
+use compare_asked::call::Call;
+use compare_asked::call::in_numbers;
+use compare_asked::side::Side;
+use compare_asked::side::same;
+use compare_draws::store::Store;
+use compare_tally::report;
 
 // The call on one side, of a copy of the store.
 fn on_side(plain: bool, c: Asked, x: Store, image: &mut [u8; 6600]) -> Side {

@@ -1,7 +1,7 @@
 // A call on one side, the store's or the plain one's, with the slices lent in the lengths of the shape and of the call. The store's side are its exports.
-use asked::call::Asked;
-use asked::call::cap;
-use draws::store::Shape;
+use compare_asked::call::Asked;
+use compare_asked::call::cap;
+use compare_draws::store::Shape;
 
 // The store's calls that change no cell of it.
 fn read_only(
@@ -58,7 +58,7 @@ fn make(
     image: &mut [u8],
 ) -> [u64; 8] {
     if plain {
-        return plain_side::make(c, x, keys, table, slots, out, image);
+        return compare_plain_side::make(c, x, keys, table, slots, out, image);
     }
     let mut a = [0u64; 8];
     let kind = c.kind;

@@ -5,18 +5,18 @@
 // The sequences: on stores that were built and grow by inserts, then on the same with cells, counts and lengths gone wrong; and on small stores whose
 // numbers are all drawn.
 use both::both;
-use draws::faults::hurt;
-use draws::keys::draw_list;
-use draws::small::draw_small;
-use draws::store::Store;
-use rounds::answer::after;
-use rounds::pass::Pass;
-use rounds::pass::cut;
-use rounds::pass::grow;
-use rounds::pass::wrong;
-use rounds::question::At;
-use rounds::question::calls;
-use rounds::question::next;
+use compare_draws::faults::hurt;
+use compare_draws::keys::draw_list;
+use compare_draws::small::draw_small;
+use compare_draws::store::Store;
+use compare_rounds::answer::after;
+use compare_rounds::pass::Pass;
+use compare_rounds::pass::cut;
+use compare_rounds::pass::grow;
+use compare_rounds::pass::wrong;
+use compare_rounds::question::At;
+use compare_rounds::question::calls;
+use compare_rounds::question::next;
 
 mod both;
 mod lend;
@@ -73,5 +73,5 @@ fn main() {
     let mut tally = [0u64; 32];
     built_rounds(&mut tally, BUILT);
     small_rounds(&mut tally, SMALL);
-    tally::write_all(&tally);
+    compare_tally::write_all(&tally);
 }

@@ -9,8 +9,10 @@ use native.Mathlib.Numerals.{add-one}
 use native.Mathlib.Omega.{arith}
 use lib.ListN.{length, getD, drop, length-drop}
 use lib.Seq.{drop-drop}
-use Rattle.lists.proofs.Rising.{in-at, in-below, up-rises}
-use Rattle.terms.specs.Limits.{keyLimit, eMost, nMost}
+use Rattle.lists.proofs.Rising.{in-at}
+use Rattle.terms.specs.Limits.{eMost, cutMost}
+use Rattle.terms.specs.Keys.{IsKey}
+use Rattle.terms.proofs.Keys.{rising-key, rising-lt}
 use Rattle.cone.specs.declared.Cone.{Cone}
 use Rattle.cone.specs.declared.Step.{Step}
 use Rattle.cone.specs.declared.Step.the-variants.{Joined, Apart}
@@ -25,7 +27,7 @@ use Rattle.cone.proofs.Laws.{started, decides, joined, fit-start, fit-g
 pub record Next (ks : List ℕ) (j : ℕ) (c : Cone) (key : ℕ) : Type 0 where
   pub more : j < length ks
   pub is : key ≡ getD ks j 0
-  pub small : key < keyLimit
+  pub small : IsKey key
   pub after : c .origin .0 < key
 
 pub open-start : (e : ℕ) (ks : List ℕ) (i : ℕ) {key : ℕ} → i < length ks → key ≡ getD ks i 0 → Open e ks i (i + 1) (startOf e key)
@@ -39,8 +41,8 @@ module _ {e : ℕ} {ks : List ℕ} {i j : ℕ} {c : Cone} (w : Open e ks i j c) 
       record {
         more = more;
         is = is;
-        small = rw is (in-below 0 keyLimit (getD ks j 0) ks (keys .rising) (in-at ks j more));
-        after = rw (is, w .describes .origin) (up-rises 0 keyLimit ks (keys .rising) i j (omega (arith, w .counted, w .describes .some)) more);
+        small = rw is (rising-key (getD ks j 0) ks (keys .rising) (in-at ks j more));
+        after = rw (is, w .describes .origin) (rising-lt ks (keys .rising) i j (omega (arith, w .counted, w .describes .some)) more);
       }
 
   module _ {key : ℕ} (next : Next ks j c key) where
@@ -51,7 +53,7 @@ module _ {e : ℕ} {ks : List ℕ} {i j : ℕ} {c : Cone} (w : Open e ks i j c) 
     rises : 0 < far ks i (c .count)
     rises = omega (arith, next .after, at, w .describes .origin)
 
-    pub open-ready : e ≤ eMost → length ks ≤ nMost → Ready e c (record { 0 = key })
+    pub open-ready : e ≤ eMost → length ks ≤ cutMost → Ready e c (record { 0 = key })
     open-ready bound few =
         record {
           bound = bound;
@@ -99,7 +101,7 @@ pub walk-start : (e : ℕ) (ks : List ℕ) {key : ℕ} → 0 < length ks → key
 walk-start e ks some is = record { segment = open-start e ks 0 some is; closed = omega arith; rest = λ r q. cut-start e ks r q }
 
 module _ {e : ℕ} {ks : List ℕ} {n i j : ℕ} {c : Cone} {key : ℕ} (w : Walk e ks n i j c) (next : Next ks j c key) where
-  pub walk-ready : e ≤ eMost → length ks ≤ nMost → Ready e c (record { 0 = key })
+  pub walk-ready : e ≤ eMost → length ks ≤ cutMost → Ready e c (record { 0 = key })
   walk-ready bound few = open-ready (w .segment) next bound few
 
   pub walk-joined : {s : Step} {d : Cone} → s ≡ stepOf e c key → s ≡ Joined d → Walk e ks n i (j + 1) d

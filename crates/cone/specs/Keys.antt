@@ -2,10 +2,10 @@
 use mathlib.Core.List.{List}
 use Prim.Native.Nat.{ℕ, _≤_}
 use lib.ListN.{length}
-use Rattle.lists.specs.Rising.{Up}
-use Rattle.terms.specs.Limits.{keyLimit, eMost, nMost}
+use Rattle.terms.specs.Limits.{eMost, cutMost}
+use Rattle.terms.specs.Keys.{RisingKeys}
 
 pub record Cuttable (e : ℕ) (ks : List ℕ) : Type 0 where
   pub bound : e ≤ eMost
-  pub few : length ks ≤ nMost
-  pub rising : Up 0 keyLimit ks
+  pub few : length ks ≤ cutMost
+  pub rising : RisingKeys ks

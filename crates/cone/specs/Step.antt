@@ -5,7 +5,8 @@ use Prim.Native.Nat.{ℕ, _+_, _-_, _*_, _≤_, _<_}
 use lib.Dec.{leb, ltb}
 use Rattle.lists.specs.Tests.{pick, both}
 use Rattle.terms.specs.declared.Key.{Key}
-use Rattle.terms.specs.Limits.{keyLimit, eMost, nMost, keyOf}
+use Rattle.terms.specs.Limits.{keyLimit, eMost, cutMost, keyOf}
+use Rattle.terms.specs.Keys.{IsKey}
 use Rattle.cone.specs.declared.Frac.{Frac}
 use Rattle.cone.specs.declared.Cone.{Cone}
 use Rattle.cone.specs.declared.Step.{Step}
@@ -14,9 +15,9 @@ use Rattle.cone.specs.declared.Step.the-variants.{Joined, Apart}
 -- what a step asks: the numbers of the cone are small, and the key comes after the origin
 pub record Ready (e : ℕ) (c : Cone) (key : Key) : Type 0 where
   pub bound : e ≤ eMost
-  pub small : key .0 < keyLimit
+  pub small : IsKey (key .0)
   pub after : c .origin .0 < key .0
-  pub few : c .count < nMost
+  pub few : c .count < cutMost
   pub flat-top : c .flat .top < keyLimit
   pub flat-bottom : c .flat .bottom ≤ c .count + e
   pub flat-slack : c .flat .slack .0 ≡ e * c .flat .top

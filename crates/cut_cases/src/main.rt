@@ -3,7 +3,7 @@ ghost use Prim.Native.Nat.{_<_, _≤_};
 
 fn show(text: &[u8]) {
     let mut out = [0u8; 53880];
-    let length = program::run(text, &mut out);
+    let length = cut_program::run(text, &mut out);
     io::write_all(1, &out[..length]);
 }
 

@@ -11,8 +11,7 @@ use lib.ListN.{length, getD, set, take, drop, length-drop}
 use lib.Seq.{sets, length-sets, drop-drop}
 use borrow.Author.Tests.{eq-eqb, ne-eqb, ltb-true, ltb-false}
 use Rattle.lists.proofs.Tests.{either}
-use Rattle.lists.proofs.Rising.{up-rises}
-use Rattle.terms.specs.Limits.{keyLimit}
+use Rattle.terms.proofs.Keys.{rising-lt}
 use Rattle.cone.specs.declared.Cone.{Cone}
 use Rattle.cone.specs.declared.Step.{Step}
 use Rattle.cone.specs.declared.Step.the-variants.{Joined, Apart}
@@ -185,7 +184,7 @@ module _ {e : ℕ} {ks : List ℕ} {from : ℕ} {t : List ℕ} {i n : ℕ} {tabl
     first-last : getD ks i 0 ≤ getD ks (i + (c - 1)) 0
     first-last =
         either (ltb 1 c)
-        (λ u. le-of-lt (up-rises 0 keyLimit ks (w .asked .keys .rising) i (i + (c - 1)) (omega (arith, ltb-true 1 c u)) (omega (arith, end-most (w .count) more is, some-keys (w .count) more is))))
+        (λ u. le-of-lt (rising-lt ks (w .asked .keys .rising) i (i + (c - 1)) (omega (arith, ltb-true 1 c u)) (omega (arith, end-most (w .count) more is, some-keys (w .count) more is))))
         (λ u. let one : c - 1 ≡ 0 = omega (arith, ltb-false 1 c u) in rw (one, add-zero) (le-refl (getD ks i 0)))
 
     pub room-asks : Room ks i c from table n

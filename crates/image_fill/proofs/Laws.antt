@@ -7,46 +7,72 @@ use native.Mathlib.Nat.{mul-le-mul, mul-le-mul-right, lt-of-le-of-lt, add-mul, o
 use native.Mathlib.Numerals.{add-one, towards-suc}
 use native.Mathlib.Omega.{arith}
 use lib.Dec.{lit<}
-use lib.ListN.{length, set, length-append}
+use lib.ListN.{length, getD, set, length-append}
 use mir.Syntax.{w64}
 use mir.Val.{Fits}
-use Rattle.little.specs.Little.{getAt}
-use Rattle.records.specs.Records.{manyAt, fieldsAt, kindOf, afterOf, total}
-use Rattle.records.specs.Records.{shape}
+use Rattle.terms.specs.declared.Sizes.{Sizes}
 use Rattle.terms.specs.Limits.{bMost, sMost}
 use Rattle.lists.specs.Over.{over, Space, Writing}
-use Rattle.records.specs.Stores.{firsts}
 use Rattle.lists.proofs.Over.{set-over, writing-start, writing-step, writing-end, length-over}
-use Rattle.image_fill.specs.Filling.{keysAt, rowAt, heldIn, nextIn, rowsAt, slotsAt, Parsed, KeysFill, RowFill, PieceFill, PiecesFill, Filling, ImageFill}
+use Rattle.image_little.specs.Little.{getAt}
+use Rattle.image_records.specs.declared.Walked.the-variants.{Past}
+use Rattle.image_records.specs.Records.{shape, manyAt, fieldsAt, recordAt, kindOf, afterOf, total}
+use Rattle.image_records.specs.Images.{layoutOf, heldAt, partOf, partsOf, partAt, afterPart, partsAt, headAt, imageAt}
+use Rattle.image_records.specs.First.{first}
+use Rattle.image_records.specs.Stores.{firsts, rowsOf, slotsBy}
+use Rattle.image_records.proofs.Records.{many-length}
+use Rattle.image_records.proofs.Images.{then-past, part-after}
+use Rattle.image_records.proofs.Filled.{firsts-length}
+use Rattle.image_records.proofs.First.{first-proper}
+use Rattle.image_records.proofs.Inside.{part-few, part-inside}
+use Rattle.image_fill.specs.Filling.{KeysFill, RowFill, PieceFill, PiecesFill, Filling, ImageFill}
 
--- ---- what the cells get is what the form says: the first numbers of the records, whatever their kind
-pub keys-are : (kind : ℕ) (l : List ℕ) (count at : ℕ) → firsts (manyAt (shape kind (6 ∷ [])) l count at) ≡ keysAt l count at
-unfolding firsts manyAt keysAt fieldsAt total
-keys-are kind l zero at = refl
-keys-are kind l (suc count) at =
-    ap (λ (k : ℕ). getAt l k 6 ∷ firsts (manyAt (shape kind (6 ∷ [])) l count (at + 7))) (sym (add-one at)) ∙
-    ap (λ (r : List ℕ). getAt l (at + 1) 6 ∷ r) (keys-are kind l count (at + 7))
+-- ---- the records, as the code steps along them
 
+-- the keys of `count` records
+abbrev keysAt : List ℕ → ℕ → ℕ → List ℕ
+keysAt l count at = firsts (manyAt (6 ∷ []) l count at)
+
+-- the place after them, whatever their kind
 pub after-is : (kind count at : ℕ) → afterOf (kindOf (shape kind (6 ∷ []))) count at ≡ at + 7 * count
 unfolding afterOf total
 after-is kind zero at = omega arith
 after-is kind (suc count) at = after-is kind count (at + 7) ∙ omega arith
 
 keys-length : (l : List ℕ) (count at : ℕ) → length (keysAt l count at) ≡ count
-unfolding keysAt
-keys-length l zero at = refl
-keys-length l (suc count) at = ap suc (keys-length l count (at + 7))
+keys-length l count at = firsts-length (manyAt (6 ∷ []) l count at) ∙ many-length l (6 ∷ []) count at
 
 keys-suc : (l : List ℕ) (count p : ℕ) → keysAt l (suc count) p ≡ (getAt l (p + 1) 6 ∷ []) ++ keysAt l count (p + 7)
-unfolding keysAt
-keys-suc l count p = refl
+unfolding firsts manyAt fieldsAt total
+keys-suc l count p = rw add-one
 
 keys-more : (l : List ℕ) (left p : ℕ) → 0 < left → keysAt l left p ≡ (getAt l (p + 1) 6 ∷ []) ++ keysAt l (left - 1) (p + 7)
 keys-more l left p h = let e : left ≡ suc (left - 1) = omega arith in ap (λ (k : ℕ). keysAt l k p) e ∙ keys-suc l (left - 1) p
 
 keys-none : (l : List ℕ) (left p : ℕ) → left ≤ 0 → keysAt l left p ≡ []
-unfolding keysAt
+unfolding firsts manyAt
 keys-none l left p h = let e : left ≡ 0 = omega arith in rw e
+
+-- a segment: its numbers, the place after it, its keys
+module _ (l : List ℕ) (at : ℕ) where
+  row-is : recordAt (first .segment) l at ≡
+      getAt l (at + 1) 6 ∷ (getAt l (at + 7) 2 ∷ (getAt l (at + 9) 2 ∷ (getAt l (at + 11) 6 ∷ (getAt l (at + 17) 1 ∷ []))))
+  unfolding fieldsAt
+  row-is =
+      let e₅ : suc at + 6 + 2 + 2 + 6 ≡ at + 17 = omega arith in
+      let e₄ : suc at + 6 + 2 + 2 ≡ at + 11 = omega arith in
+      let e₃ : suc at + 6 + 2 ≡ at + 9 = omega arith in
+      let e₂ : suc at + 6 ≡ at + 7 = omega arith in
+      let e₁ : suc at ≡ at + 1 = omega arith in
+      rw (e₅, e₄, e₃, e₂, e₁)
+
+  next-is : afterPart first l at ≡ at + 18 + 7 * heldAt (layoutOf first) l at
+  unfolding total
+  next-is = after-is 4 (heldAt (layoutOf first) l at) (at + 18)
+
+  slots-is : firsts (partAt first l at .held) ≡ keysAt l (heldAt (layoutOf first) l at) (at + 18)
+  unfolding total
+  slots-is = refl
 
 -- ---- fill_keys
 module _ (l : List ℕ) (at : ℕ) (c₀ : List ℕ) (to count : ℕ) where
@@ -76,16 +102,15 @@ pub ruleset five-cases = (five-written)
 
 -- ---- fill_row
 pub row-filled : (l : List ℕ) (at : ℕ) (t : List ℕ) (i : ℕ) {a b c d e : ℕ} → a ≡ getAt l (at + 1) 6 → b ≡ getAt l (at + 7) 2 → c ≡ getAt l (at + 9) 2 → d ≡ getAt l (at + 11) 6
-    → e ≡ getAt l (at + 17) 1 → {t′ : List ℕ} → t′ ≡ over t (5 * i) (a ∷ (b ∷ (c ∷ (d ∷ (e ∷ []))))) → t′ ≡ over t (5 * i) (rowAt l at)
-unfolding rowAt
-row-filled l at t i p q r s u g = g ∙ rw (p, q, r, s, u)
+    → e ≡ getAt l (at + 17) 1 → {t′ : List ℕ} → t′ ≡ over t (5 * i) (a ∷ (b ∷ (c ∷ (d ∷ (e ∷ []))))) → t′ ≡ over t (5 * i) (recordAt (first .segment) l at)
+row-filled l at t i p q r s u g = g ∙ rw (p, q, r, s, u) (ap (over t (5 * i)) (sym (row-is l at)))
 
 pub ruleset row-cases = (row-filled)
 
 -- ---- held_in
-pub held-read : (l : List ℕ) (at : ℕ) {r : ℕ} → r ≡ getAt l (at + 17) 1 → r ≡ heldIn l at
-unfolding heldIn
-held-read l at e = e
+pub held-read : (l : List ℕ) (at : ℕ) {x r : ℕ} → x ≡ getAt l (at + 17) 1 → r ≡ x → r ≡ heldAt (layoutOf first) l at
+unfolding heldAt
+held-read l at e f = f ∙ e
 
 pub ruleset held-cases = (held-read)
 
@@ -95,115 +120,132 @@ slots-fit i b h g = let k : i ≤ sMost = omega arith in record { fits = lt-of-l
 
 module _ (l : List ℕ) (at b : ℕ) (t buffers : List ℕ) (i : ℕ) where
   pub held-asks : PieceFill l at b t buffers i → Space l at 18
-  held-asks r = record { inside = omega (arith, r .inside) }
+  held-asks r = record { inside = r .stands }
 
   pub row-asks : PieceFill l at b t buffers i → RowFill l at t i
-  row-asks r = record { inside = omega (arith, r .inside); row = r .row; few = r .few }
+  row-asks r = record { inside = r .stands; row = r .row; few = r .few }
 
-  module _ {h : ℕ} (held : h ≡ heldIn l at) where
+  module _ {h : ℕ} (held : h ≡ heldAt (layoutOf first) l at) where
     pub keys-asks : PieceFill l at b t buffers i → KeysFill l (at + 18) buffers (i * b) h
-    keys-asks r = rw held (record { records = r .inside; room = r .slots })
+    keys-asks r = rw held (record { records = rw (next-is l at) at (r .inside); room = r .slots })
 
-    pub piece-place : {q : ℕ} → q ≡ at + 18 + 7 * h → q ≡ at + 18 + 7 * heldIn l at
-    piece-place g = g ∙ rw held
+    pub piece-place : {q : ℕ} → q ≡ at + 18 + 7 * h → q ≡ afterPart first l at
+    piece-place g = g ∙ rw held (sym (next-is l at))
 
-    pub piece-filled : {c : List ℕ} → c ≡ over buffers (i * b) (keysAt l h (at + 18)) → c ≡ over buffers (i * b) (keysAt l (heldIn l at) (at + 18))
-    piece-filled g = g ∙ rw held
+    pub piece-filled : {c : List ℕ} → c ≡ over buffers (i * b) (keysAt l h (at + 18)) → c ≡ over buffers (i * b) (firsts (partAt first l at .held))
+    piece-filled g = g ∙ rw held (ap (over buffers (i * b)) (sym (slots-is l at)))
 
 pub ruleset piece-cases = (slots-fit, held-asks, row-asks, keys-asks, piece-place, piece-filled)
 
 -- ---- fill_pieces
-row-length : (l : List ℕ) (at : ℕ) → length (rowAt l at) ≡ 5
-unfolding rowAt
+row-length : (l : List ℕ) (at : ℕ) → length (recordAt (first .segment) l at) ≡ 5
+unfolding fieldsAt
 row-length l at = refl
 
-rows-length : (l : List ℕ) (s at : ℕ) → length (rowsAt l s at) ≡ 5 * s
-unfolding rowsAt
+rows-length : (l : List ℕ) (s at : ℕ) → length (rowsOf (partsAt first l s at)) ≡ 5 * s
+unfolding rowsOf partsAt
 rows-length l zero at = refl
-rows-length l (suc s) at = length-append (rowAt l at) (rowsAt l s (nextIn l at)) ∙ omega (arith, row-length l at, rows-length l s (nextIn l at))
+rows-length l (suc s) at =
+    length-append (recordAt (first .segment) l at) (rowsOf (partsAt first l s (afterPart first l at))) ∙ omega (arith, row-length l at, rows-length l s (afterPart first l at))
 
-rows-none : (l : List ℕ) (p : ℕ) → rowsAt l 0 p ≡ []
-unfolding rowsAt
-rows-none l p = refl
+-- the next segment, and what is left after it
+module _ (l : List ℕ) (b p : ℕ) where
+  rows-none : rowsOf (partsAt first l 0 p) ≡ []
+  unfolding rowsOf partsAt
+  rows-none = refl
 
-rows-suc : (l : List ℕ) (s p : ℕ) → rowsAt l (suc s) p ≡ rowAt l p ++ rowsAt l s (nextIn l p)
-unfolding rowsAt
-rows-suc l s p = refl
+  rows-suc : (s : ℕ) → rowsOf (partsAt first l (suc s) p) ≡ recordAt (first .segment) l p ++ rowsOf (partsAt first l s (afterPart first l p))
+  unfolding rowsOf partsAt
+  rows-suc s = refl
 
-slots-none : (l : List ℕ) (b p i : ℕ) (bs : List ℕ) → slotsAt l b 0 p i bs ≡ bs
-unfolding slotsAt
-slots-none l b p i bs = refl
+  slots-none : (i : ℕ) (bs : List ℕ) → slotsBy b (partsAt first l 0 p) i bs ≡ bs
+  unfolding slotsBy partsAt
+  slots-none i bs = refl
 
-slots-suc : (l : List ℕ) (b s p i : ℕ) (bs : List ℕ) → slotsAt l b (suc s) p i bs ≡ slotsAt l b s (nextIn l p) (i + 1) (over bs (i * b) (keysAt l (heldIn l p) (p + 18)))
-unfolding slotsAt
-slots-suc l b s p i bs = refl
+  slots-suc : (s i : ℕ) (bs : List ℕ)
+      → slotsBy b (partsAt first l (suc s) p) i bs ≡ slotsBy b (partsAt first l s (afterPart first l p)) (i + 1) (over bs (i * b) (firsts (partAt first l p .held)))
+  unfolding slotsBy partsAt
+  slots-suc s i bs = refl
 
-parsed-suc : (b : ℕ) (l : List ℕ) (s p : ℕ) → Parsed b l (suc s) p → (nextIn l p ≤ length l) × ((heldIn l p < b) × Parsed b l s (nextIn l p))
-unfolding Parsed
-parsed-suc b l s p g = g
+  -- what the judging pass found of it
+  record Stood (s last : ℕ) : Type 0 where
+    pub inside : afterPart first l p ≤ length l
+    pub few : heldAt (layoutOf first) l p < b
+    pub rest : partsOf (layoutOf first) b l s (afterPart first l p) ≡ Past last
 
-module _ (l : List ℕ) (b p : ℕ) (left : ℕ) (h : 0 < left) where
-  one : left ≡ suc (left - 1)
-  one = omega arith
-
-  rows-more : rowsAt l left p ≡ rowAt l p ++ rowsAt l (left - 1) (nextIn l p)
-  rows-more = ap (λ (k : ℕ). rowsAt l k p) one ∙ rows-suc l (left - 1) p
-
-  slots-more : (i : ℕ) (bs : List ℕ) → slotsAt l b left p i bs ≡ slotsAt l b (left - 1) (nextIn l p) (i + 1) (over bs (i * b) (keysAt l (heldIn l p) (p + 18)))
-  slots-more i bs = ap (λ (k : ℕ). slotsAt l b k p i bs) one ∙ slots-suc l b (left - 1) p i bs
-
-  parsed-more : Parsed b l left p → (nextIn l p ≤ length l) × ((heldIn l p < b) × Parsed b l (left - 1) (nextIn l p))
-  parsed-more g = parsed-suc b l (left - 1) p (subst (λ (k : ℕ). Parsed b l k p) one g)
+  stood : (s last : ℕ) → partsOf (layoutOf first) b l (suc s) p ≡ Past last → Stood s last
+  unfolding partsOf
+  stood s last e =
+      then-past (partOf (layoutOf first) b l p) (λ m. partsOf (layoutOf first) b l s m) last e
+      (λ m here next.
+      let a : m ≡ afterPart first l p = part-after first first-proper l b p m here in
+      record { inside = rw a at (part-inside (layoutOf first) b l p m here); few = part-few (layoutOf first) b l p m here; rest = rw a at next })
 
 module _ (l : List ℕ) (at b : ℕ) (t₀ bs₀ : List ℕ) (s : ℕ) where
+  abbrev rows : List ℕ
+  rows = rowsOf (partsAt first l s at)
+
   pub filling-start : PiecesFill l at b t₀ bs₀ s → Filling l at b t₀ bs₀ s t₀ bs₀ at 0 s
   filling-start r =
       record {
-        rows = writing-start t₀ 0 (rowsAt l s at) (omega (arith, rows-length l s at, r .rows));
+        rows = writing-start t₀ 0 rows (omega (arith, rows-length l s at, r .rows));
         slots = refl;
         same = refl;
         counts = omega arith;
-        parsed = r .parsed;
+        last = r .last;
+        judged = r .judged;
       }
 
   module _ (t bs : List ℕ) (p i left : ℕ) (w : Filling l at b t₀ bs₀ s t bs p i left) where
-    pub piece-asks : 0 < left → PiecesFill l at b t₀ bs₀ s → PieceFill l p b t bs i
-    piece-asks h r =
-        let g : _ = parsed-more l b p left h (w .parsed) in
-        let c : i + 1 ≤ s = omega (arith, w .counts) in
-        let m : (i + 1) * b ≤ s * b = mul-le-mul-right b c in
-        let n : (i + 1) * b ≡ i * b + b = add-mul i 1 b ∙ rw one-mul in
-        record {
-          inside = g .0;
-          row = omega (arith, w .rows .same, r .rows);
-          few = omega (arith, r .few);
-          small = r .small;
-          slots = omega (arith, g .1 .0, w .same, r .slots);
-        }
+    module _ (h : 0 < left) where
+      one : left ≡ suc (left - 1)
+      one = omega arith
 
-    pub filling-turn : 0 < left → {t′ bs′ : List ℕ} {q : ℕ} → q ≡ nextIn l p → t′ ≡ over t (5 * i) (rowAt l p) → bs′ ≡ over bs (i * b) (keysAt l (heldIn l p) (p + 18))
-        → Filling l at b t₀ bs₀ s t′ bs′ q (i + 1) (left - 1)
-    filling-turn h {t′} {bs′} {q} e f g =
-        let z : _ = parsed-more l b p left h (w .parsed) in
-        let next : Writing t₀ 0 (rowsAt l s at) t′ (5 * (i + 1)) (rowsAt l (left - 1) (nextIn l p)) =
-        writing-step t₀ 0 (rowsAt l s at) t (5 * i) (rowAt l p) (rowsAt l (left - 1) (nextIn l p)) (subst (λ (x : List ℕ). Writing t₀ 0 (rowsAt l s at) t (5 * i) x) (rows-more l b p left h) (w .rows)) t′ f
-        (5 * (i + 1)) (omega (arith, row-length l p)) in
-        rw e
-        (record {
-          rows = next;
-          slots = rw g (sym (slots-more l b p left h i bs) ∙ w .slots);
-          same = ap length g ∙ length-over bs (i * b) (keysAt l (heldIn l p) (p + 18)) ∙ w .same;
-          counts = omega (arith, w .counts);
-          parsed = z .1 .1;
-        })
+      here : Stood l b p (left - 1) (w .last)
+      here = stood l b p (left - 1) (w .last) (subst (λ (k : ℕ). partsOf (layoutOf first) b l k p ≡ Past (w .last)) one (w .judged))
 
-    pub filling-rows : left ≤ 0 → t ≡ over t₀ 0 (rowsAt l s at)
-    filling-rows h =
-        let e : left ≡ 0 = omega arith in
-        writing-end t₀ 0 (rowsAt l s at) t (5 * i) (subst (λ (x : List ℕ). Writing t₀ 0 (rowsAt l s at) t (5 * i) x) (ap (λ (k : ℕ). rowsAt l k p) e ∙ rows-none l p) (w .rows))
+      pub piece-asks : PiecesFill l at b t₀ bs₀ s → PieceFill l p b t bs i
+      piece-asks r =
+          let c : i + 1 ≤ s = omega (arith, w .counts) in
+          let m : (i + 1) * b ≤ s * b = mul-le-mul-right b c in
+          let n : (i + 1) * b ≡ i * b + b = add-mul i 1 b ∙ rw one-mul in
+          record {
+            stands = omega (arith, next-is l p, here .inside);
+            inside = here .inside;
+            row = omega (arith, w .rows .same, r .rows);
+            few = omega (arith, r .few);
+            small = r .small;
+            slots = omega (arith, here .few, w .same, r .slots);
+          }
 
-    pub filling-slots : left ≤ 0 → bs ≡ slotsAt l b s at 0 bs₀
-    filling-slots h = let e : 0 ≡ left = omega arith in sym (slots-none l b p i bs) ∙ ap (λ (k : ℕ). slotsAt l b k p i bs) e ∙ w .slots
+      pub filling-turn : {t′ bs′ : List ℕ} {q : ℕ} → q ≡ afterPart first l p → t′ ≡ over t (5 * i) (recordAt (first .segment) l p)
+          → bs′ ≡ over bs (i * b) (firsts (partAt first l p .held)) → Filling l at b t₀ bs₀ s t′ bs′ q (i + 1) (left - 1)
+      filling-turn {t′} {bs′} {q} e f g =
+          let row : List ℕ = recordAt (first .segment) l p in
+          let more : List ℕ = rowsOf (partsAt first l (left - 1) (afterPart first l p)) in
+          let now : Writing t₀ 0 rows t (5 * i) (row ++ more) =
+          subst (λ (x : List ℕ). Writing t₀ 0 rows t (5 * i) x) (ap (λ (k : ℕ). rowsOf (partsAt first l k p)) one ∙ rows-suc l b p (left - 1)) (w .rows) in
+          rw e
+          (record {
+            rows = writing-step t₀ 0 rows t (5 * i) row more now t′ f (5 * (i + 1)) (omega (arith, row-length l p));
+            slots = rw g (sym (slots-suc l b p (left - 1) i bs) ∙ ap (λ (k : ℕ). slotsBy b (partsAt first l k p) i bs) (sym one) ∙ w .slots);
+            same = ap length g ∙ length-over bs (i * b) (firsts (partAt first l p .held)) ∙ w .same;
+            counts = omega (arith, w .counts);
+            last = w .last;
+            judged = here .rest;
+          })
+
+    module _ (h : left ≤ 0) where
+      none : left ≡ 0
+      none = omega arith
+
+      pub filling-rows : t ≡ over t₀ 0 rows
+      filling-rows =
+          writing-end t₀ 0 rows t (5 * i)
+          (subst (λ (x : List ℕ). Writing t₀ 0 rows t (5 * i) x) (ap (λ (k : ℕ). rowsOf (partsAt first l k p)) none ∙ rows-none l b p) (w .rows))
+
+      pub filling-slots : bs ≡ slotsBy b (partsAt first l s at) 0 bs₀
+      filling-slots = sym (slots-none l b p i bs) ∙ ap (λ (k : ℕ). slotsBy b (partsAt first l k p) i bs) (sym none) ∙ w .slots
 
     pub filling-same : length bs ≡ length bs₀
     filling-same = w .same
@@ -214,18 +256,43 @@ module _ (l : List ℕ) (at b : ℕ) (t₀ bs₀ : List ℕ) (s : ℕ) where
 pub ruleset filling-cases = (filling-start, piece-asks, filling-turn, filling-rows, filling-slots, filling-same, filling-same-rows)
 
 -- ---- fill
-module _ (l : List ℕ) (b n s : ℕ) (keys t bs : List ℕ) where
-  pub run-asks : ImageFill l b n s keys t bs → KeysFill l 9 keys 0 n
-  run-asks r = record { records = r .run; room = omega (arith, r .keys-room) }
+module _ (l : List ℕ) (z : Sizes) (keys t bs : List ℕ) (r : ImageFill l z keys t bs) where
+  n-told : z .n ≡ getD (headAt first l) 2 0
+  unfolding imageAt
+  n-told = ap (λ (w : Sizes). w .n) (r .told)
 
-  module _ {p : ℕ} (place : p ≡ 9 + 7 * n) where
-    pub pieces-asks : ImageFill l b n s keys t bs → PiecesFill l p b t bs s
-    pieces-asks r = rw place (record { parsed = r .parsed; rows = r .rows; few = r .few; small = r .small; slots = r .slots })
+  s-told : z .s ≡ getD (headAt first l) 3 0
+  unfolding imageAt
+  s-told = ap (λ (w : Sizes). w .s) (r .told)
 
-pub table-filled : (l : List ℕ) (n s : ℕ) (t : List ℕ) {p : ℕ} → p ≡ 9 + 7 * n → {t′ : List ℕ} → t′ ≡ over t 0 (rowsAt l s p) → t′ ≡ over t 0 (rowsAt l s (9 + 7 * n))
-table-filled l n s t place g = g ∙ rw place
+  pub run-asks : KeysFill l 9 keys 0 (z .n)
+  run-asks = record { records = r .run; room = omega (arith, r .limits) }
 
-pub slots-filled : (l : List ℕ) (b n s : ℕ) (bs : List ℕ) {p : ℕ} → p ≡ 9 + 7 * n → {bs′ : List ℕ} → bs′ ≡ slotsAt l b s p 0 bs → bs′ ≡ slotsAt l b s (9 + 7 * n) 0 bs
-slots-filled l b n s bs place g = g ∙ rw place
+  pub run-filled : {c : List ℕ} → c ≡ over keys 0 (keysAt l (z .n) 9) → c ≡ over keys 0 (firsts (imageAt first l .keys))
+  unfolding imageAt total
+  run-filled g = g ∙ ap (λ (k : ℕ). over keys 0 (keysAt l k 9)) n-told
 
-pub ruleset image-cases = (run-asks, pieces-asks, table-filled, slots-filled)
+  module _ {p : ℕ} (place : p ≡ 9 + 7 * z .n) where
+    pub pieces-asks : PiecesFill l p (z .b) t bs (z .s)
+    pieces-asks =
+        rw place
+        (record {
+          last = r .last;
+          judged = r .judged;
+          rows = r .limits .table-holds;
+          few = r .limits .s-most;
+          small = r .limits .b-most;
+          slots = r .limits .buffers-hold;
+        })
+
+    parts-is : partsAt first l (z .s) p ≡ imageAt first l .parts
+    unfolding imageAt total
+    parts-is = rw (place ∙ sym (after-is 2 (z .n) 9), n-told, s-told)
+
+    pub table-filled : {c : List ℕ} → c ≡ over t 0 (rowsOf (partsAt first l (z .s) p)) → c ≡ over t 0 (rowsOf (imageAt first l .parts))
+    table-filled g = g ∙ rw parts-is
+
+    pub slots-filled : {c : List ℕ} → c ≡ slotsBy (z .b) (partsAt first l (z .s) p) 0 bs → c ≡ slotsBy (z .b) (imageAt first l .parts) 0 bs
+    slots-filled g = g ∙ rw parts-is
+
+pub ruleset image-cases = (run-asks, run-filled, pieces-asks, table-filled, slots-filled)

@@ -10,21 +10,23 @@ use lib.Dec.{lit<, lit≤}
 use mir.Syntax.{w64}
 use mir.Val.{Fits}
 use borrow.Author.Tests.{le-leb, lt-leb, lt-ltb, le-ltb}
+use Rattle.lists.specs.Over.{Space}
 use Rattle.lists.specs.Tests.{all}
+use Rattle.terms.specs.declared.Sizes.{Sizes}
 use Rattle.table.specs.Limits.{countedOf}
 use Rattle.terms.specs.declared.Refusal.the-variants.{Limits, Malformed}
-use Rattle.little.specs.Little.{getAt}
-use Rattle.records.specs.declared.Kind.{Kind}
-use Rattle.records.specs.declared.Layout.{Layout}
-use Rattle.records.specs.declared.Walked.{Walked}
-use Rattle.records.specs.declared.Walked.the-variants.{Past, Fault}
-use Rattle.records.specs.Records.{total, standsAt, walkOf, Stands}
-use Rattle.records.specs.Images.{heldAt, segmentAt, partOf, partsOf, endOf, restOf, layoutOf}
-use Rattle.records.specs.First.{first}
-use Rattle.records.proofs.Records.{stands-of, stands-yes, stands-no}
-use Rattle.records.proofs.Inside.{walk-inside, part-inside, parts-inside}
-use Rattle.image_judge.specs.Judging.{answerOf, headedOf, judgedOf}
-use Rattle.image_judge.specs.Asks.{Ready, Readable, Laid, Held, Two, afterKeysOf}
+use Rattle.image_little.specs.Little.{getAt}
+use Rattle.image_records.specs.declared.Kind.{Kind}
+use Rattle.image_records.specs.declared.Layout.{Layout}
+use Rattle.image_records.specs.declared.Walked.{Walked}
+use Rattle.image_records.specs.declared.Walked.the-variants.{Past, Fault}
+use Rattle.image_records.specs.Records.{total, standsAt, walkOf, Stands}
+use Rattle.image_records.specs.Images.{heldAt, segmentAt, partOf, partsOf, endOf, restOf, layoutOf}
+use Rattle.image_records.specs.First.{first}
+use Rattle.image_records.proofs.Records.{stands-of, stands-yes, stands-no}
+use Rattle.image_records.proofs.Inside.{walk-inside, part-inside, parts-inside}
+use Rattle.image_judge.specs.Judging.{sizesAt, answerOf, headedOf, judgedOf}
+use Rattle.image_judge.specs.Asks.{Ready, Readable, Laid, afterKeysOf}
 use Rattle.image_judge.specs.declared.Judged.{Judged}
 use Rattle.image_judge.specs.declared.Judged.the-variants.{Refused}
 
@@ -87,7 +89,7 @@ module _ (f : Layout) (b : ℕ) (l : List ℕ) (at : ℕ) {r : Bool} (stood : r 
     unfolding partOf segmentAt all
     part-walked g e = simp (sym stood ∙ q, sym held, lt-ltb h b g) e
 
-pub held-asks : (f : Layout) (l : List ℕ) (at : ℕ) {r : Bool} → r ≡ standsAt (f .segment) l at → r ≡ true → Readable f l at → Held f l at
+pub held-asks : (f : Layout) (l : List ℕ) (at : ℕ) {r : Bool} → r ≡ standsAt (f .segment) l at → r ≡ true → Readable f l at → Space l (at + f .held) 1
 held-asks f l at stood q g = let w : Stands (f .segment) l at = stands-of (f .segment) l at stood q in omega arith
 
 pub buffered-asks : (f : Layout) (l : List ℕ) (at : ℕ) {r : Bool} → r ≡ standsAt (f .segment) l at → r ≡ true → Readable f l at
@@ -177,30 +179,30 @@ module _ (f : Layout) (l : List ℕ) {r : Bool} (stood : r ≡ standsAt (f .head
   head-refused q = simp (sym stood ∙ q)
 
   module _ (q : r ≡ true) where
-    pub two-asks : Laid f → {x : ℕ} → x ≤ 7 → Two l x
-    two-asks g h = let w : Stands (f .head) l 0 = stands-of (f .head) l 0 stood q in omega arith
+    pub sizes-asks : Laid f → Space l 0 9
+    sizes-asks g = let w : Stands (f .head) l 0 = stands-of (f .head) l 0 stood q in omega arith
 
     pub headed-asks : Laid f → Readable f l (f .head .size)
     headed-asks g = let w : Stands (f .head) l 0 = stands-of (f .head) l 0 stood q in omega arith
 
-    pub head-answered : {e b n s : ℕ} → e ≡ getAt l 1 2 → b ≡ getAt l 3 2 → n ≡ getAt l 5 2 → s ≡ getAt l 7 2 → {a : Judged} → a ≡ headedOf f l e b n s → a ≡ judgedOf f l
+    pub head-answered : {z : Sizes} → z ≡ sizesAt l → {a : Judged} → a ≡ headedOf f l z → a ≡ judgedOf f l
     unfolding judgedOf
-    head-answered pe pb pn ps v = simp (sym stood ∙ q, sym pe, sym pb, sym pn, sym ps) v
+    head-answered p v = simp (sym stood ∙ q) (v ∙ ap (headedOf f l) p)
 
 pub head-asks : (f : Layout) (l : List ℕ) → Laid f → Ready (f .head) l 0
 head-asks f l g = omega arith
 
-pub ruleset read-cases = (head-refused, two-asks, headed-asks, head-answered, head-asks)
+pub ruleset read-cases = (head-refused, sizes-asks, headed-asks, head-answered, head-asks)
 
 -- ---- headed
-module _ (f : Layout) (l : List ℕ) (e b n s : ℕ) {c : Bool} (counted : c ≡ countedOf e b n s) where
-  pub limits-refused : c ≡ false → Refused Limits ≡ headedOf f l e b n s
+module _ (f : Layout) (l : List ℕ) (z : Sizes) {c : Bool} (counted : c ≡ countedOf (z .e) (z .b) (z .n) (z .s)) where
+  pub limits-refused : c ≡ false → Refused Limits ≡ headedOf f l z
   unfolding headedOf
   limits-refused t = simp (sym counted ∙ t)
 
-  pub answered : c ≡ true → {w : Walked} → w ≡ restOf f l b n s (f .head .size) → {a : Judged} → a ≡ answerOf e b n s w → a ≡ headedOf f l e b n s
+  pub answered : c ≡ true → {w : Walked} → w ≡ restOf f l (z .b) (z .n) (z .s) (f .head .size) → {a : Judged} → a ≡ answerOf z w → a ≡ headedOf f l z
   unfolding headedOf
-  answered t u v = simp (sym counted ∙ t) (v ∙ ap (answerOf e b n s) u)
+  answered t u v = simp (sym counted ∙ t) (v ∙ ap (answerOf z) u)
 
 pub ruleset headed-cases = (limits-refused, answered)
 

@@ -1,12 +1,12 @@
 -- What the steps of the judging pass ask, and the walk along what follows the run keys, as the code divides it.
 use mathlib.Core.List.{List}
-use Prim.Native.Nat.{ℕ, _+_, _≤_, _<_}
+use Prim.Native.Nat.{ℕ, _≤_, _<_}
 use lib.ListN.{length}
-use Rattle.records.specs.declared.Kind.{Kind}
-use Rattle.records.specs.declared.Layout.{Layout}
-use Rattle.records.specs.declared.Walked.{Walked}
-use Rattle.records.specs.Records.{andThen}
-use Rattle.records.specs.Images.{partsOf, endOf}
+use Rattle.image_records.specs.declared.Kind.{Kind}
+use Rattle.image_records.specs.declared.Layout.{Layout}
+use Rattle.image_records.specs.declared.Walked.{Walked}
+use Rattle.image_records.specs.Records.{andThen}
+use Rattle.image_records.specs.Images.{partsOf, endOf}
 
 pub record Ready (k : Kind) (bytes : List ℕ) (at : ℕ) : Type 0 where
   pub inside : at ≤ length bytes
@@ -23,12 +23,6 @@ pub record Laid (f : Layout) : Type 0 where
 pub record Readable (f : Layout) (bytes : List ℕ) (at : ℕ) : Type 0 where
   pub inside : at ≤ length bytes
   pub laid : Laid f
-
-pub record Held (f : Layout) (bytes : List ℕ) (at : ℕ) : Type 0 where
-  pub inside : at + f .held + 1 ≤ length bytes
-
-pub record Two (bytes : List ℕ) (at : ℕ) : Type 0 where
-  pub inside : at + 2 ≤ length bytes
 
 unfoldable pub afterKeysOf : Layout → List ℕ → ℕ → ℕ → ℕ → Walked
 afterKeysOf f bytes b s at = andThen (partsOf f b bytes s at) (λ z. endOf f bytes z)

@@ -1,16 +1,18 @@
 // The judging pass of reading: one walk over the bytes, of any edition. It writes nothing and reads no body but the head and held.
-use records::Kind;
-use records::Layout;
-use records::Walked;
+use image_records::Kind;
+use image_records::Layout;
+use image_records::Walked;
 use terms::Refusal;
+use terms::Sizes;
 ghost use mathlib.Core.Path.{_≡_};
-ghost use lib.ListN.{length};
-ghost use Rattle.little.specs.Little.{getAt};
-ghost use Rattle.records.specs.Records.{standsAt, walkOf};
-ghost use Rattle.records.specs.Images.{heldAt, partOf, partsOf, endOf, restOf, layoutOf};
-ghost use Rattle.records.specs.First.{first};
-ghost use Rattle.image_judge.specs.Judging.{answerOf, headedOf, judgedOf};
-ghost use Rattle.image_judge.specs.Asks.{Ready, Readable, Laid, Held, Two, afterKeysOf};
+ghost use Prim.Native.Nat.{_+_};
+ghost use Rattle.lists.specs.Over.{Space};
+ghost use Rattle.image_little.specs.Little.{getAt};
+ghost use Rattle.image_records.specs.Records.{standsAt, walkOf};
+ghost use Rattle.image_records.specs.Images.{heldAt, partOf, partsOf, endOf, restOf, layoutOf};
+ghost use Rattle.image_records.specs.First.{first};
+ghost use Rattle.image_judge.specs.Judging.{sizesAt, answerOf, headedOf, judgedOf};
+ghost use Rattle.image_judge.specs.Asks.{Ready, Readable, Laid, afterKeysOf};
 
 // Whether a record of this kind stands there: it is not cut short, and its first byte is right.
 fn stands(bytes: &[u8], k: Kind, at: usize) -> bool
@@ -44,19 +46,12 @@ fn walk(bytes: &[u8], k: Kind, at: usize, count: usize) -> Walked
     Walked::Past(p)
 }
 
-// A number of the image as a count.
-fn size(x: u64) -> usize
-    ensures { λ r. ⌜ r ≡ x ⌝ }
-{
-    x as usize
-}
-
 // How many buffered keys the segment there says it holds.
 fn held_at(bytes: &[u8], f: Layout, at: usize) -> usize
-    requires { ⌜ Held f (now bytes) at ⌝ }
+    requires { ⌜ Space (now bytes) (at + f .held) 1 ⌝ }
     ensures { λ r. ⌜ r ≡ heldAt f (now (bytes .entry)) at ⌝ }
 {
-    size(little::get(bytes, at + f.held, 1))
+    terms::size(image_little::get(bytes, at + f.held, 1))
 }
 
 // Along one segment and its buffered keys.
@@ -124,54 +119,61 @@ fn after(bytes: &[u8], f: Layout, b: usize, s: usize, at: usize) -> Walked
 }
 
 // What follows the head.
-fn rest(bytes: &[u8], f: Layout, b: usize, n: usize, s: usize, at: usize) -> Walked
+fn rest(bytes: &[u8], f: Layout, z: Sizes, at: usize) -> Walked
     requires { ⌜ Readable f (now bytes) at ⌝ }
-    ensures { λ r. ⌜ r ≡ restOf f (now (bytes .entry)) b n s at ⌝ }
+    ensures { λ r. ⌜ r ≡ restOf f (now (bytes .entry)) (z .b) (z .n) (z .s) at ⌝ }
 {
-    let w = walk(bytes, f.key, at, n);
+    let w = walk(bytes, f.key, at, z.n);
     match w {
-        Walked::Past(k) => after(bytes, f, b, s, k),
+        Walked::Past(k) => after(bytes, f, z.b, z.s, k),
         Walked::Fault(q) => Walked::Fault(q),
     }
 }
 
 // What the judging pass says: the four numbers of a well-formed image, or the refusal.
 pub enum Judged {
-    Well {
-        e: usize,
-        b: usize,
-        n: usize,
-        s: usize,
-    },
+    Well(Sizes),
     Refused(Refusal),
 }
 
 // The answer after a head within its limits.
-fn answer(w: Walked, e: usize, b: usize, n: usize, s: usize) -> Judged
-    ensures { λ r. ⌜ r ≡ answerOf e b n s w ⌝ }
+fn answer(w: Walked, z: Sizes) -> Judged
+    ensures { λ r. ⌜ r ≡ answerOf z w ⌝ }
 {
     match w {
-        Walked::Past(_) => Judged::Well { e, b, n, s },
+        Walked::Past(_) => Judged::Well(z),
         Walked::Fault(p) => Judged::Refused(Refusal::Malformed(p)),
     }
 }
 
 // A number of the head.
 fn two(bytes: &[u8], at: usize) -> usize
-    requires { ⌜ Two (now bytes) at ⌝ }
+    requires { ⌜ Space (now bytes) at 2 ⌝ }
     ensures { λ r. ⌜ r ≡ getAt (now (bytes .entry)) at 2 ⌝ }
 {
-    size(little::get(bytes, at, 2))
+    terms::size(image_little::get(bytes, at, 2))
+}
+
+// The four numbers of the head.
+fn head_sizes(bytes: &[u8]) -> Sizes
+    requires { ⌜ Space (now bytes) 0 9 ⌝ }
+    ensures { λ r. ⌜ r ≡ sizesAt (now (bytes .entry)) ⌝ }
+{
+    let e = two(bytes, 1);
+    let b = two(bytes, 3);
+    let n = two(bytes, 5);
+    let s = two(bytes, 7);
+    Sizes { e, b, n, s }
 }
 
 // After a head with these numbers: refusal 1, 10 at the rest, or the four numbers.
-fn headed(bytes: &[u8], f: Layout, e: usize, b: usize, n: usize, s: usize) -> Judged
+fn headed(bytes: &[u8], f: Layout, z: Sizes) -> Judged
     requires { ⌜ Readable f (now bytes) (f .head .size) ⌝ }
-    ensures { λ r. ⌜ r ≡ headedOf f (now (bytes .entry)) e b n s ⌝ }
+    ensures { λ r. ⌜ r ≡ headedOf f (now (bytes .entry)) z ⌝ }
 {
-    if table::counted(e, b, n, s) {
-        let w = rest(bytes, f, b, n, s, f.head.size);
-        return answer(w, e, b, n, s);
+    if table::counted(z) {
+        let w = rest(bytes, f, z, f.head.size);
+        return answer(w, z);
     }
     Judged::Refused(Refusal::Limits)
 }
@@ -182,11 +184,7 @@ fn judge_by(bytes: &[u8], f: Layout) -> Judged
     ensures { λ r. ⌜ r ≡ judgedOf f (now (bytes .entry)) ⌝ }
 {
     if stands(bytes, f.head, 0) {
-        let e = two(bytes, 1);
-        let b = two(bytes, 3);
-        let n = two(bytes, 5);
-        let s = two(bytes, 7);
-        return headed(bytes, f, e, b, n, s);
+        return headed(bytes, f, head_sizes(bytes));
     }
     Judged::Refused(Refusal::Malformed(0))
 }

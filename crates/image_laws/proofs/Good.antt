@@ -9,10 +9,10 @@ use lib.ListN.{length, getD}
 use Rattle.table.specs.Store.{Store}
 use Rattle.table.specs.Limits.{Limits}
 use Rattle.table.specs.Entries.{entryOf}
-use Rattle.records.specs.Records.{FitAll}
-use Rattle.records.specs.Images.{Part, GoodPart, GoodParts, Good}
-use Rattle.records.specs.First.{first}
-use Rattle.records.specs.Stores.{singlesIn, partIn, partsIn, imageIn}
+use Rattle.image_records.specs.Records.{FitAll}
+use Rattle.image_records.specs.Images.{Part, GoodPart, GoodParts, Good}
+use Rattle.image_records.specs.First.{first}
+use Rattle.image_records.specs.Stores.{singlesIn, partIn, partsIn, imageIn}
 use Rattle.image_laws.specs.Writing.{Writable, Entries, Run}
 
 abbrev Small : List ℕ → ℕ → ℕ → Type 0

@@ -19,9 +19,9 @@ read-outcome κs a r r′ x x′ p q =
     let e : r ≡ r′ = p .0 ∙ sym (q .0) in
     (e, rw e at (p .1 .0) ∙ sym (q .1 .0), rw e at (p .1 .1 .0) ∙ sym (q .1 .1 .0), rw e at (p .1 .1 .1) ∙ sym (q .1 .1 .1))
 
--- writing: the out slice is the eighth
+-- writing: the out slice is the fifth
 pub write-outcome : (κs : Lfts 4) (a : _) (r r′ : Written) (x x′ : _) → write.Post κs a r x → write.Post κs a r′ x′ →
-    (r ≡ r′) × (now (x .1 .1 .1 .1 .1 .1 .1 .0) ≡ now (x′ .1 .1 .1 .1 .1 .1 .1 .0))
+    (r ≡ r′) × (now (x .1 .1 .1 .1 .0) ≡ now (x′ .1 .1 .1 .1 .0))
 write-outcome κs a r r′ x x′ p q = let e : r ≡ r′ = p .0 ∙ sym (q .0) in (e, rw e at (p .1) ∙ sym (q .1))
 
 -- a refusal changes nothing
@@ -29,5 +29,5 @@ pub read-unchanged : (κs : Lfts 4) (a : _) (r : Refusal) (x : _) → read.Post 
     (now (x .1 .0) ≡ now (a .1 .0)) × (now (x .1 .1 .0) ≡ now (a .1 .1 .0)) × (now (x .1 .1 .1 .0) ≡ now (a .1 .1 .1 .0))
 read-unchanged κs a r x p = (p .1 .0, p .1 .1 .0, p .1 .1 .1)
 
-pub write-unchanged : (κs : Lfts 4) (a : _) (r : Refusal) (x : _) → write.Post κs a (Unwritten r) x → now (x .1 .1 .1 .1 .1 .1 .1 .0) ≡ now (a .1 .1 .1 .1 .1 .1 .1 .0)
+pub write-unchanged : (κs : Lfts 4) (a : _) (r : Refusal) (x : _) → write.Post κs a (Unwritten r) x → now (x .1 .1 .1 .1 .0) ≡ now (a .1 .1 .1 .1 .0)
 write-unchanged κs a r x p = p .1

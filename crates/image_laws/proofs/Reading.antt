@@ -5,19 +5,20 @@ use mathlib.Core.Bool.{true, false}
 use mathlib.Core.List.{List}
 use Prim.Native.Nat.{ℕ, _≤_, _<_}
 use borrow.Author.Tests.{leb-true, leb-false, le-leb, lt-leb}
+use Rattle.terms.specs.declared.Sizes.{Sizes}
 use Rattle.terms.specs.declared.Refusal.the-variants.{Limits as OutOfLimits, KeyRoom, SegmentRoom, Malformed}
 use Rattle.lists.proofs.Tests.{either, clash, is-false}
 use Rattle.table.specs.Limits.{Counted, countedOf, keyRoom, segmentRoom}
 use Rattle.table.proofs.Limits.{counted-true, true-counted}
-use Rattle.records.specs.declared.Walked.{Walked}
-use Rattle.records.specs.declared.Walked.the-variants.{Past, Fault}
-use Rattle.records.specs.Records.{total, standsAt, kindOf}
-use Rattle.records.specs.Images.{layoutOf, restOf}
-use Rattle.records.specs.Meaning.{Rest}
-use Rattle.records.specs.First.{first}
-use Rattle.records.proofs.Records.{stands-true, true-stands}
-use Rattle.records.proofs.Meaning.{rest-is, rest-one}
-use Rattle.image_judge.specs.Judging.{answerOf, headedOf, judgedOf}
+use Rattle.image_records.specs.declared.Walked.{Walked}
+use Rattle.image_records.specs.declared.Walked.the-variants.{Past, Fault}
+use Rattle.image_records.specs.Records.{total, standsAt, kindOf}
+use Rattle.image_records.specs.Images.{layoutOf, restOf}
+use Rattle.image_records.specs.Meaning.{Rest}
+use Rattle.image_records.specs.First.{first}
+use Rattle.image_records.proofs.Records.{stands-true, true-stands}
+use Rattle.image_records.proofs.Meaning.{rest-is, rest-one}
+use Rattle.image_judge.specs.Judging.{sizesAt, answerOf, headedOf, judgedOf}
 use Rattle.image_judge.specs.declared.Judged.{Judged}
 use Rattle.image_judge.specs.declared.Judged.the-variants.{Well, Refused as Unwell}
 use Rattle.image_read.specs.Loading.{keysHeld, segmentsHeld, roomedOf, afterJudged, loadOf}
@@ -46,12 +47,12 @@ module _ (l : List ℕ) where
       let c : countedOf (eIn l) (bIn l) (nIn l) (sIn l) ≡ false = is-false (countedOf (eIn l) (bIn l) (nIn l) (sIn l)) (λ e. x (counted-true (eIn l) (bIn l) (nIn l) (sIn l) e)) in
       simp (true-stands (kindOf (first .head)) l 0 h, c)
 
-  judged-rest : Headed l → (w : Walked) → walked ≡ w → judgedOf (layoutOf first) l ≡ answerOf (eIn l) (bIn l) (nIn l) (sIn l) w
+  judged-rest : Headed l → (w : Walked) → walked ≡ w → judgedOf (layoutOf first) l ≡ answerOf (sizesAt l) w
   unfolding judgedOf headedOf total
   judged-rest h w e =
-      simp (true-stands (kindOf (first .head)) l 0 (h .head), true-counted (eIn l) (bIn l) (nIn l) (sIn l) (h .counted)) (ap (answerOf (eIn l) (bIn l) (nIn l) (sIn l)) e)
+      simp (true-stands (kindOf (first .head)) l 0 (h .head), true-counted (eIn l) (bIn l) (nIn l) (sIn l) (h .counted)) (ap (answerOf (sizesAt l)) e)
 
-  judged-formed : Formed l → judgedOf (layoutOf first) l ≡ Well (eIn l) (bIn l) (nIn l) (sIn l)
+  judged-formed : Formed l → judgedOf (layoutOf first) l ≡ Well (sizesAt l)
   judged-formed g = judged-rest (g .headed) (Past (g .last)) (rest-one (layoutOf first) l (bIn l) (nIn l) (sIn l) 9 walked (Past (g .last)) walked-is (g .rest))
 
   judged-faulty : (p : ℕ) → Headed l → Faulty l p → judgedOf (layoutOf first) l ≡ Unwell (Malformed p)
@@ -98,7 +99,7 @@ module _ (l keys t bs : List ℕ) where
 
   -- ---- the answer has its meaning
 
-  formed-answers : Formed l → Answers l keys t bs (roomedOf (eIn l) (bIn l) (nIn l) (sIn l) keys t bs)
+  formed-answers : Formed l → Answers l keys t bs (roomedOf (sizesAt l) keys t bs)
   unfolding roomedOf
   formed-answers g =
       either (keysHeld (nIn l) keys)
@@ -106,7 +107,7 @@ module _ (l keys t bs : List ℕ) where
       (λ y. simp (x, y) (refused-7 g (keys-true (nIn l) x) (segments-false (bIn l) (sIn l) y))))
       (λ x. simp x (refused-6 g (keys-false (nIn l) x)))
 
-  walked-answers : Headed l → (w : Walked) → Rest (layoutOf first) l (bIn l) (nIn l) (sIn l) 9 w → Answers l keys t bs (afterJudged (answerOf (eIn l) (bIn l) (nIn l) (sIn l) w) keys t bs)
+  walked-answers : Headed l → (w : Walked) → Rest (layoutOf first) l (bIn l) (nIn l) (sIn l) 9 w → Answers l keys t bs (afterJudged (answerOf (sizesAt l) w) keys t bs)
   walked-answers h (Past z) r = formed-answers (record { headed = h; last = z; rest = r })
   walked-answers h (Fault p) r = refused-10 h r
 
@@ -119,7 +120,7 @@ module _ (l keys t bs : List ℕ) where
       either (countedOf (eIn l) (bIn l) (nIn l) (sIn l))
       (λ y.
       let g : Headed l = record { head = h; counted = counted-true (eIn l) (bIn l) (nIn l) (sIn l) y } in
-      rw (sym (load-is (answerOf (eIn l) (bIn l) (nIn l) (sIn l) (walked l)) (judged-rest l g (walked l) refl))) (walked-answers g (walked l) (walked-is l)))
+      rw (sym (load-is (answerOf (sizesAt l) (walked l)) (judged-rest l g (walked l) refl))) (walked-answers g (walked l) (walked-is l)))
       (λ y.
       let c : Counted (eIn l) (bIn l) (nIn l) (sIn l) → ⊥ = λ k. clash (sym (true-counted (eIn l) (bIn l) (nIn l) (sIn l) k) ∙ y) in
       rw (sym (load-is (Unwell OutOfLimits) (judged-limits l h c))) (refused-1 h c)))
@@ -129,26 +130,26 @@ module _ (l keys t bs : List ℕ) where
 
   -- ---- and nothing else does
 
-  formed-loads : Formed l → {a : Loaded} → a ≡ roomedOf (eIn l) (bIn l) (nIn l) (sIn l) keys t bs → a ≡ loadOf l keys t bs
-  formed-loads g e = e ∙ load-is (Well (eIn l) (bIn l) (nIn l) (sIn l)) (judged-formed l g)
+  formed-loads : Formed l → {a : Loaded} → a ≡ roomedOf (sizesAt l) keys t bs → a ≡ loadOf l keys t bs
+  formed-loads g e = e ∙ load-is (Well (sizesAt l)) (judged-formed l g)
 
-  roomed-store : (e b n s : ℕ) → n ≤ keyRoom keys → s ≤ segmentRoom b t bs → Store e b n s ≡ roomedOf e b n s keys t bs
+  roomed-store : (z : Sizes) → z .n ≤ keyRoom keys → z .s ≤ segmentRoom (z .b) t bs → Store (z .e) (z .b) (z .n) (z .s) ≡ roomedOf z keys t bs
   unfolding roomedOf
-  roomed-store e b n s x y = simp (true-keys n x, true-segments b s y)
+  roomed-store z x y = simp (true-keys (z .n) x, true-segments (z .b) (z .s) y)
 
-  roomed-keys : (e b n s : ℕ) → keyRoom keys < n → Refused KeyRoom ≡ roomedOf e b n s keys t bs
+  roomed-keys : (z : Sizes) → keyRoom keys < z .n → Refused KeyRoom ≡ roomedOf z keys t bs
   unfolding roomedOf
-  roomed-keys e b n s x = simp (false-keys n x)
+  roomed-keys z x = simp (false-keys (z .n) x)
 
-  roomed-segments : (e b n s : ℕ) → n ≤ keyRoom keys → segmentRoom b t bs < s → Refused SegmentRoom ≡ roomedOf e b n s keys t bs
+  roomed-segments : (z : Sizes) → z .n ≤ keyRoom keys → segmentRoom (z .b) t bs < z .s → Refused SegmentRoom ≡ roomedOf z keys t bs
   unfolding roomedOf
-  roomed-segments e b n s x y = simp (true-keys n x, false-segments b s y)
+  roomed-segments z x y = simp (true-keys (z .n) x, false-segments (z .b) (z .s) y)
 
   -- An answer that means what it should is reading's.
   pub read-only : (a : Loaded) → Answers l keys t bs a → a ≡ loadOf l keys t bs
-  read-only a (taken g x y) = formed-loads g (roomed-store (eIn l) (bIn l) (nIn l) (sIn l) x y)
+  read-only a (taken g x y) = formed-loads g (roomed-store (sizesAt l) x y)
   read-only a (refused-10-head x) = load-is (Unwell (Malformed 0)) (judged-head l x)
   read-only a (refused-1 h x) = load-is (Unwell OutOfLimits) (judged-limits l h x)
   read-only a (refused-10 {p} h x) = load-is (Unwell (Malformed p)) (judged-faulty l p h x)
-  read-only a (refused-6 g x) = formed-loads g (roomed-keys (eIn l) (bIn l) (nIn l) (sIn l) x)
-  read-only a (refused-7 g x y) = formed-loads g (roomed-segments (eIn l) (bIn l) (nIn l) (sIn l) x y)
+  read-only a (refused-6 g x) = formed-loads g (roomed-keys (sizesAt l) x)
+  read-only a (refused-7 g x y) = formed-loads g (roomed-segments (sizesAt l) x y)

@@ -1,7 +1,7 @@
 -- Demand 2, its last sentence: writing a store and reading it gives the same store, and reading an image and writing it gives the same bytes.
 -- And what reading does not touch.
 -- Assumes nothing.
-use mathlib.Core.Path.{_≡_, refl, sym, ap, _∙_}
+use mathlib.Core.Path.{_≡_, refl, sym, ap, _∙_, subst}
 use mathlib.Core.Bool.{true}
 use mathlib.Core.List.{List}
 use mathlib.Core.Logic.{inl, inr}
@@ -14,25 +14,28 @@ use borrow.Author.Tests.{leb-true, leb-false, ltb-true, ltb-false}
 use Rattle.lists.specs.Over.{over}
 use Rattle.lists.proofs.Tests.{either}
 use Rattle.lists.proofs.Over.{length-over, over-after, over-start}
-use Rattle.little.specs.Little.{Bytes}
-use Rattle.table.specs.Store.{Store}
+use Rattle.image_little.specs.Little.{Bytes}
+use Rattle.terms.specs.declared.Sizes.{Sizes}
+use Rattle.terms.specs.Limits.{sizesOf}
+use Rattle.table.specs.Store.{Store, storeOf, sizesIn}
 use Rattle.table.specs.Limits.{Limits, Counted, keyRoom, segmentRoom}
 use Rattle.table.specs.Entries.{entryOf, entryIn}
-use Rattle.records.specs.declared.Walked.the-variants.{Past}
-use Rattle.records.specs.Records.{total, fieldsAt, standsAt, kindOf}
-use Rattle.records.specs.Images.{layoutOf, restOf, wellOf, Image, imageBytes, imageAt, Good}
-use Rattle.records.specs.Meaning.{Rest}
-use Rattle.records.specs.First.{first}
-use Rattle.records.specs.Stores.{singlesIn, partsIn, imageIn, firsts, rowsOf, filledOf, Apart}
-use Rattle.records.proofs.Records.{no-fault, stands-true}
-use Rattle.records.proofs.Images.{read-written, written-read}
-use Rattle.records.proofs.Accepted.{read-good}
-use Rattle.records.proofs.Meaning.{rest-is}
-use Rattle.records.proofs.First.{first-proper}
-use Rattle.records.proofs.Filled.{FillRoom, filled-image, slots-length, slots-kept, firsts-length, rows-length}
+use Rattle.image_records.specs.declared.Walked.the-variants.{Past}
+use Rattle.image_records.specs.Records.{total, fieldsAt, standsAt, kindOf}
+use Rattle.image_records.specs.Images.{layoutOf, restOf, wellOf, Image, imageBytes, imageAt, Good}
+use Rattle.image_records.specs.Meaning.{Rest}
+use Rattle.image_records.specs.First.{first}
+use Rattle.image_records.specs.Stores.{singlesIn, partsIn, imageIn, firsts, rowsOf, headSizes, filledOf, Apart}
+use Rattle.image_records.proofs.Records.{no-fault, stands-true}
+use Rattle.image_records.proofs.Images.{read-written, written-read}
+use Rattle.image_records.proofs.Accepted.{read-good}
+use Rattle.image_records.proofs.Meaning.{rest-is}
+use Rattle.image_records.proofs.First.{first-proper}
+use Rattle.image_records.proofs.Filled.{filled-image, slots-length, slots-kept, firsts-length, rows-length}
+use Rattle.image_judge.specs.Judging.{sizesAt}
 use Rattle.image_read.specs.Loading.{loadOf}
 use Rattle.answers.specs.declared.Loaded.the-variants.{Store as Read}
-use Rattle.image_read.proofs.Told.{told-well}
+use Rattle.image_read.proofs.Told.{told-well, told-head}
 use Rattle.image_read.proofs.Laws.{Taken, taken}
 use Rattle.image_write.specs.Writing.{lengthOf, writeOf, outBy}
 use Rattle.answers.specs.declared.Written.the-variants.{Bytes as Wrote}
@@ -46,32 +49,15 @@ use Rattle.image_laws.proofs.Reading.{read-only}
 use Rattle.image_laws.proofs.Good.{singles-length, image-good, good-entries, good-run}
 use Rattle.image_laws.proofs.Same.{same-image}
 
--- ---- the head's numbers, in the image and in the bytes
-
 module _ (l : List ℕ) where
-  abbrev head : ℕ → ℕ
-  head k = getD (imageAt first l .head) k 0
-
-  e-is : head 0 ≡ eIn l
+  -- the head's numbers, in the image and in the bytes
+  head-is : headSizes (imageAt first l) ≡ sizesAt l
   unfolding imageAt fieldsAt
-  e-is = refl
+  head-is = refl
 
-  b-is : head 1 ≡ bIn l
-  unfolding imageAt fieldsAt
-  b-is = refl
-
-  n-is : head 2 ≡ nIn l
-  unfolding imageAt fieldsAt
-  n-is = refl
-
-  s-is : head 3 ≡ sIn l
-  unfolding imageAt fieldsAt
-  s-is = refl
-
--- the store that reading leaves is the one that the image fills
-module _ (l keys t bs : List ℕ) where
-  store-filled : (e b n s : ℕ) → e ≡ head l 0 → b ≡ head l 1 → n ≡ head l 2 → s ≡ head l 3 → storeRead l keys t bs e b n s ≡ filledOf (imageAt first l) keys t bs
-  store-filled e b n s qe qb qn qs = rw (qe, qb, qn, qs)
+  -- the store that reading leaves is the one that the image fills
+  store-filled : (keys t bs : List ℕ) (z : Sizes) → z ≡ headSizes (imageAt first l) → storeRead l keys t bs z ≡ filledOf (imageAt first l) keys t bs
+  store-filled keys t bs z q = rw q
 
 -- ---- write, then read
 
@@ -106,27 +92,14 @@ module _ (σ : Store) (room z : ℕ) (w : writeOf σ room ≡ Wrote z) where
     well-rest y e = either (standsAt (kindOf (first .head)) l 0) (λ x. (x, simp x at e)) (λ x. no-fault 0 y (simp x at e))
 
     module _ (y : ℕ) (e : wellOf first l ≡ Past y) (same : imageAt first l ≡ imageIn σ) where
-      head-told : (k : ℕ) → head l k ≡ getD (imageIn σ .head) k 0
-      head-told k = ap (λ (v : Image). getD (v .head) k 0) same
-
-      qe : eIn l ≡ σ .e
+      same-sizes : sizesAt l ≡ sizesIn σ
       unfolding imageIn
-      qe = sym (e-is l) ∙ head-told 0
-
-      qb : bIn l ≡ σ .b
-      unfolding imageIn
-      qb = sym (b-is l) ∙ head-told 1
-
-      qn : nIn l ≡ σ .n
-      unfolding imageIn
-      qn = sym (n-is l) ∙ head-told 2
-
-      qs : sIn l ≡ σ .s
-      unfolding imageIn
-      qs = sym (s-is l) ∙ head-told 3
+      same-sizes = sym (head-is l) ∙ ap headSizes same
 
       counted : Counted (eIn l) (bIn l) (nIn l) (sIn l)
-      counted = let c : Counted (σ .e) (σ .b) (σ .n) (σ .s) = omega (arith, told .limits) in rw (qe, qb, qn, qs) c
+      counted =
+          let c : Counted (σ .e) (σ .b) (σ .n) (σ .s) = omega (arith, told .limits) in
+          subst (λ (z : Sizes). Counted (z .e) (z .b) (z .n) (z .s)) (sym same-sizes) c
 
       formed : Formed l
       formed =
@@ -136,24 +109,22 @@ module _ (σ : Store) (room z : ℕ) (w : writeOf σ room ≡ Wrote z) where
 
       loads : loadOf l keys t bs ≡ Read (σ .e) (σ .b) (σ .n) (σ .s)
       loads =
-          let k : nIn l ≤ keyRoom keys = rw qn keys-room in
-          let g : sIn l ≤ segmentRoom (bIn l) t bs = rw (qb, qs) segments-room in
-          sym (read-only l keys t bs (Read (eIn l) (bIn l) (nIn l) (sIn l)) (reading.taken formed k g)) ∙ rw (qe, qb, qn, qs)
+          let k : nIn l ≤ keyRoom keys = subst (λ (z : Sizes). z .n ≤ keyRoom keys) (sym same-sizes) keys-room in
+          let g : sIn l ≤ segmentRoom (bIn l) t bs = subst (λ (z : Sizes). z .s ≤ segmentRoom (z .b) t bs) (sym same-sizes) segments-room in
+          sym (read-only l keys t bs (Read (eIn l) (bIn l) (nIn l) (sIn l)) (reading.taken formed k g)) ∙
+          ap (λ (z : Sizes). Read (z .e) (z .b) (z .n) (z .s)) same-sizes
 
-      rooms : Taken l (σ .e) (σ .b) (σ .n) (σ .s) keys t bs
-      rooms = taken l keys t bs (σ .e) (σ .b) (σ .n) (σ .s) loads
-
-      fill-room : FillRoom (imageIn σ) keys t bs
+      fill-room : Limits (storeOf (headSizes (imageIn σ)) keys t bs)
       unfolding imageIn
-      fill-room = record { keys-room = rooms .roomy .keys-room; table-room = rooms .roomy .rows; buffers-room = rooms .roomy .slots }
+      fill-room = taken l keys t bs (σ .e) (σ .b) (σ .n) (σ .s) loads .limits
 
-      image-same : imageIn (storeRead l keys t bs (σ .e) (σ .b) (σ .n) (σ .s)) ≡ imageIn σ
+      image-same : imageIn (storeRead l keys t bs (sizesIn σ)) ≡ imageIn σ
       image-same =
-          ap imageIn (store-filled l keys t bs (σ .e) (σ .b) (σ .n) (σ .s) (sym qe ∙ sym (e-is l)) (sym qb ∙ sym (b-is l)) (sym qn ∙ sym (n-is l)) (sym qs ∙ sym (s-is l))) ∙
-          ap (λ (v : Image). imageIn (filledOf v keys t bs)) same ∙ filled-image (imageIn σ) keys t bs good fill-room
+          ap imageIn (store-filled l keys t bs (sizesIn σ) (sym same-sizes ∙ sym (head-is l))) ∙ ap (λ (v : Image). imageIn (filledOf v keys t bs)) same ∙
+          filled-image (imageIn σ) keys t bs good fill-room
 
       back : Back σ l keys t bs
-      back = record { answer = loads; same = same-image σ (storeRead l keys t bs (σ .e) (σ .b) (σ .n) (σ .s)) (sym image-same) }
+      back = record { answer = loads; same = same-image σ (storeRead l keys t bs (sizesIn σ)) (sym image-same) }
 
     pub image-back : Back σ l keys t bs
     image-back = read-written first first-proper (imageIn σ) good (λ y e same. back y e same)
@@ -189,42 +160,31 @@ apart-in b p t bs i (suc count) free =
 -- ---- read, then write
 
 module _ (l keys t bs : List ℕ) (e b n s : ℕ) (small : Bytes l) (q : loadOf l keys t bs ≡ Read e b n s) where
-  got : Taken l e b n s keys t bs
+  abbrev z : Sizes
+  z = sizesOf e b n s
+
+  got : Taken l z keys t bs
   got = taken l keys t bs e b n s q
 
   abbrev v : Image
   v = imageAt first l
 
   abbrev τ : Store
-  τ = storeRead l keys t bs e b n s
+  τ = storeRead l keys t bs z
 
-  ge : e ≡ head l 0
-  ge = got .told .e-told ∙ sym (e-is l)
-
-  gb : b ≡ head l 1
-  gb = got .told .b-told ∙ sym (b-is l)
-
-  gn : n ≡ head l 2
-  gn = got .told .n-told ∙ sym (n-is l)
-
-  gs : s ≡ head l 3
-  gs = got .told .s-told ∙ sym (s-is l)
+  told-sizes : z ≡ headSizes v
+  told-sizes = told-head l z (got .told)
 
   v-good : Good first v
-  v-good = read-good l small first first-proper (got .told .last) (told-well l e b n s (got .told))
-
-  v-room : FillRoom v keys t bs
-  v-room =
-      let k : n ≤ length keys = got .roomy .keys-room in
-      let r : 5 * s ≤ length t = got .roomy .rows in
-      let c : s * b ≤ length bs = got .roomy .slots in
-      record { keys-room = rw gn at k; table-room = rw gs at r; buffers-room = rw (gs, gb) at c }
+  v-good = read-good l small first first-proper (got .told .last) (told-well l z (got .told))
 
   image-is : imageIn τ ≡ v
-  image-is = ap imageIn (store-filled l keys t bs e b n s ge gb gn gs) ∙ filled-image v keys t bs v-good v-room
+  image-is =
+      ap imageIn (store-filled l keys t bs z told-sizes) ∙
+      filled-image v keys t bs v-good (subst (λ (y : Sizes). Limits (storeOf y keys t bs)) told-sizes (got .limits))
 
   bytes-are : imageBytes first (imageIn τ) ≡ l
-  bytes-are = ap (imageBytes first) image-is ∙ written-read first first-proper l (got .told .last) small (told-well l e b n s (got .told))
+  bytes-are = ap (imageBytes first) image-is ∙ written-read first first-proper l (got .told .last) small (told-well l z (got .told))
 
   τ-good : Good first (imageIn τ)
   τ-good = rw image-is v-good
@@ -234,7 +194,7 @@ module _ (l keys t bs : List ℕ) (e b n s : ℕ) (small : Bytes l) (q : loadOf 
       let a : length (τ .keys) ≡ length keys = length-over keys 0 (firsts (v .keys)) in
       let c : length (τ .table) ≡ length t = length-over t 0 (rowsOf (v .parts)) in
       let d : length (τ .buffers) ≡ length bs = slots-length b (v .parts) 0 bs in
-      omega (arith, a, c, d, got .roomy, got .told .counted)
+      omega (arith, a, c, d, got .limits)
 
   long : bytesOf τ ≡ length l
   long = ap length bytes-are
@@ -250,10 +210,10 @@ module _ (l keys t bs : List ℕ) (e b n s : ℕ) (small : Bytes l) (q : loadOf 
   -- ---- what reading does not touch
 
   keys-long : length (firsts (v .keys)) ≡ n
-  keys-long = firsts-length (v .keys) ∙ sym (v-good .keys-count) ∙ sym gn
+  keys-long = firsts-length (v .keys) ∙ sym (v-good .keys-count) ∙ ap (λ (y : Sizes). y .n) (sym told-sizes)
 
   table-long : length (rowsOf (v .parts)) ≡ 5 * s
-  table-long = rows-length (head l 1) (v .parts) (v-good .parts-good) ∙ ap (λ (k : ℕ). 5 * k) (sym (v-good .parts-count) ∙ sym gs)
+  table-long = rows-length (headSizes v .b) (v .parts) (v-good .parts-good) ∙ ap (λ (k : ℕ). 5 * k) (sym (v-good .parts-count) ∙ ap (λ (y : Sizes). y .s) (sym told-sizes))
 
   slots-apart : (p : ℕ) → ((i j : ℕ) → i < s → j < entryIn τ i .held → p ≡ i * b + j → ⊥) → Apart b p 0 (v .parts)
   unfolding entryOf

@@ -15,8 +15,8 @@ use Rattle.table.specs.Limits.{Limits}
 use Rattle.table.specs.Entries.{entryOf, endOf, entryIn, runIn, usedIn}
 use Rattle.table.specs.Damaged.{Sound}
 use Rattle.table.specs.Reads.{mergedIn}
-use Rattle.records.specs.Images.{Part, Image}
-use Rattle.records.specs.Stores.{singlesIn, rowIn, partIn, partsIn, imageIn, firsts}
+use Rattle.image_records.specs.Images.{Part, Image}
+use Rattle.image_records.specs.Stores.{singlesIn, rowIn, partIn, partsIn, imageIn, firsts}
 use Rattle.image_laws.specs.Same.{Same}
 
 -- ---- cells of an image's records

@@ -6,14 +6,15 @@ use Prim.Native.Nat.{ℕ, _-_, _^_}
 use lib.ListN.{length, take, set}
 use Rattle.terms.specs.declared.Refusal.the-variants.{Limits, KeyRoom, SegmentRoom, OutRoom, StoreWrong, Malformed}
 use Rattle.lists.specs.Tests.{all}
-use Rattle.little.specs.Little.{numberBytes, getAt}
+use Rattle.image_little.specs.Little.{numberBytes, getAt}
 use Rattle.scan.specs.Scan.{firstOf, failsOf}
+use Rattle.terms.specs.Limits.{sizesOf}
 use Rattle.table.specs.Store.{Store, storeOf}
 use Rattle.table.specs.Limits.{countedOf, limitedOf}
-use Rattle.records.specs.Records.{fieldBytes, recordBytes, manyBytes, fitsOf, total, standsAt, walkOf}
-use Rattle.records.specs.Images.{partBytes, imageBytes, heldAt, segmentAt, partOf, partsOf, endOf, restOf}
-use Rattle.records.specs.First.{first}
-use Rattle.records.specs.Stores.{singlesIn, partsIn, imageIn}
+use Rattle.image_records.specs.Records.{fieldBytes, recordBytes, manyBytes, fitsOf, total, standsAt, walkOf}
+use Rattle.image_records.specs.Images.{partBytes, imageBytes, heldAt, segmentAt, partOf, partsOf, endOf, restOf}
+use Rattle.image_records.specs.First.{first}
+use Rattle.image_records.specs.Stores.{singlesIn, partsIn, imageIn}
 use Rattle.image_judge.specs.Judging.{headedOf, judgedOf}
 use Rattle.image_read.specs.Loading.{keysHeld, segmentsHeld, roomedOf, loadOf}
 use Rattle.answers.specs.declared.Loaded.{Loaded}
@@ -32,11 +33,11 @@ abbrev slots : List ℕ
 slots = (7 ∷ (7 ∷ (7 ∷ (7 ∷ (7 ∷ (7 ∷ (7 ∷ (7 ∷ (7 ∷ (7 ∷ (7 ∷ (7 ∷ (7 ∷ (7 ∷ (7 ∷ (7 ∷ []))))))))))))))))
 
 abbrev printed : Store
-printed = storeOf 1 2 6 2 keys table slots
+printed = storeOf (sizesOf 1 2 6 2) keys table slots
 
 -- the same with other keys and another table
 abbrev tabled : List ℕ → List ℕ → Store
-tabled ks t = storeOf 1 2 6 2 ks t slots
+tabled ks t = storeOf (sizesOf 1 2 6 2) ks t slots
 
 abbrev image : List ℕ
 image = imageBytes first (imageIn printed)
@@ -77,7 +78,7 @@ unfolding imageBytes imageIn numberBytes fieldBytes recordBytes manyBytes partBy
 full-entry = refl
 
 -- a buffered key counts to its segment
-large-slot : writeOf (storeOf 1 2 6 2 keys (set table 9 1) (set slots 2 (2 ^ 48))) 100 ≡ Unwritten (StoreWrong 1)
+large-slot : writeOf (storeOf (sizesOf 1 2 6 2) keys (set table 9 1) (set slots 2 (2 ^ 48))) 100 ≡ Unwritten (StoreWrong 1)
 unfolding imageBytes imageIn numberBytes fieldBytes recordBytes manyBytes partBytes singlesIn partsIn writeOf limitedOf all wrongOf failsOf firstOf entryFits fitsOf fitsAt runWrong fittedOf lengthOf
 large-slot = refl
 
@@ -87,7 +88,7 @@ unfolding imageBytes imageIn numberBytes fieldBytes recordBytes manyBytes partBy
 damaged-written = refl
 
 -- the limits come first
-no-segments : writeOf (storeOf 1 2 6 0 keys table slots) 0 ≡ Unwritten Limits
+no-segments : writeOf (storeOf (sizesOf 1 2 6 0) keys table slots) 0 ≡ Unwritten Limits
 unfolding imageBytes imageIn numberBytes fieldBytes recordBytes manyBytes partBytes singlesIn partsIn writeOf limitedOf all wrongOf failsOf firstOf entryFits fitsOf fitsAt runWrong fittedOf lengthOf
 no-segments = refl
 

@@ -20,9 +20,9 @@ use Rattle.table.specs.Store.{Store}
 use Rattle.table.specs.Limits.{Limits, limitedOf}
 use Rattle.table.specs.Entries.{entryOf}
 use Rattle.table.proofs.Limits.{limited-true, true-limited}
-use Rattle.records.specs.First.{first}
-use Rattle.records.specs.Stores.{rowIn}
-use Rattle.records.proofs.Records.{fits-fit, fit-fits}
+use Rattle.image_records.specs.First.{first}
+use Rattle.image_records.specs.Stores.{rowIn}
+use Rattle.image_records.proofs.Records.{fits-fit, fit-fits}
 use Rattle.image_write.specs.Writing.{fitsAt, cellsFit, entryTests, entryFits, runWrong, orElse, wrongOf, lengthOf, fittedOf, judgedOf, writeOf}
 use Rattle.answers.specs.declared.Written.{Written}
 use Rattle.answers.specs.declared.Written.the-variants.{Bytes, Refused}

@@ -2,13 +2,13 @@
 use mathlib.Core.List.{List}
 use Prim.Native.Nat.{ℕ, _≤_, _<_}
 use Rattle.terms.specs.declared.Refusal.the-variants.{Limits as OutOfLimits, KeyRoom, SegmentRoom, Malformed}
-use Rattle.little.specs.Little.{getAt}
+use Rattle.image_little.specs.Little.{getAt}
 use Rattle.table.specs.Limits.{Counted, keyRoom, segmentRoom}
-use Rattle.records.specs.declared.Walked.the-variants.{Past, Fault}
-use Rattle.records.specs.Records.{Stands, kindOf}
-use Rattle.records.specs.Images.{layoutOf}
-use Rattle.records.specs.Meaning.{Rest}
-use Rattle.records.specs.First.{first}
+use Rattle.image_records.specs.declared.Walked.the-variants.{Past, Fault}
+use Rattle.image_records.specs.Records.{Stands, kindOf}
+use Rattle.image_records.specs.Images.{layoutOf}
+use Rattle.image_records.specs.Meaning.{Rest}
+use Rattle.image_records.specs.First.{first}
 use Rattle.answers.specs.declared.Loaded.{Loaded}
 use Rattle.answers.specs.declared.Loaded.the-variants.{Store, Refused}
 

@@ -3,22 +3,25 @@ use mathlib.Core.Path.{_≡_}
 use mathlib.Core.List.{List, _++_}
 use Prim.Native.Nat.{ℕ, _+_, _*_, _≤_, _<_}
 use lib.ListN.{length, getD, drop}
-use Rattle.table.specs.Store.{Store, storeOf}
+use Rattle.terms.specs.declared.Sizes.{Sizes}
+use Rattle.table.specs.Store.{Store, storeOf, sizesIn}
 use Rattle.table.specs.Entries.{entryIn}
 use Rattle.image_read.specs.Loading.{loadOf, keysBy, tableBy, buffersBy}
+use Rattle.answers.specs.declared.Loaded.{Loaded}
 use Rattle.answers.specs.declared.Loaded.the-variants.{Store as Read}
 use Rattle.image_write.specs.Writing.{writeOf, outBy}
 use Rattle.answers.specs.declared.Written.the-variants.{Bytes}
 use Rattle.image_laws.specs.Same.{Same}
 
 -- the store that reading leaves in the slices where it answers e, B, n and s
-abbrev pub storeRead : List ℕ → List ℕ → List ℕ → List ℕ → ℕ → ℕ → ℕ → ℕ → Store
-storeRead l keys t bs e b n s = storeOf e b n s (keysBy (Read e b n s) l keys) (tableBy (Read e b n s) l t) (buffersBy (Read e b n s) l bs)
+abbrev pub storeRead : List ℕ → List ℕ → List ℕ → List ℕ → Sizes → Store
+storeRead l keys t bs z =
+    let a : Loaded = Read (z .e) (z .b) (z .n) (z .s) in storeOf z (keysBy a l keys) (tableBy a l t) (buffersBy a l bs)
 
 -- reading l gives the store back: its numbers as the answer, and its used cells
 pub record Back (σ : Store) (l keys t bs : List ℕ) : Type 0 where
   pub answer : loadOf l keys t bs ≡ Read (σ .e) (σ .b) (σ .n) (σ .s)
-  pub same : Same σ (storeRead l keys t bs (σ .e) (σ .b) (σ .n) (σ .s))
+  pub same : Same σ (storeRead l keys t bs (sizesIn σ))
 
 -- writing the store gives the bytes l again, over any out slice with room for them
 pub record Again (τ : Store) (l : List ℕ) : Type 0 where

@@ -6,9 +6,9 @@ use Rattle.table.specs.Store.{Store}
 use Rattle.table.specs.Limits.{Limits}
 use Rattle.table.specs.Entries.{entryIn}
 use Rattle.scan.specs.Meaning.{Lowest}
-use Rattle.records.specs.Images.{imageBytes}
-use Rattle.records.specs.First.{first}
-use Rattle.records.specs.Stores.{imageIn}
+use Rattle.image_records.specs.Images.{imageBytes}
+use Rattle.image_records.specs.First.{first}
+use Rattle.image_records.specs.Stores.{imageIn}
 use Rattle.answers.specs.declared.Written.{Written}
 use Rattle.answers.specs.declared.Written.the-variants.{Bytes, Refused}
 

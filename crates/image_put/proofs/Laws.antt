@@ -1,25 +1,26 @@
 -- The cases of the writing functions.
 -- Assumes nothing.
-use mathlib.Core.Path.{_≡_, refl, sym, ap, _∙_, subst}
+use mathlib.Core.Path.{_≡_, refl, sym, ap, _∙_}
 use mathlib.Core.List.{List, [], _∷_, _++_, append-assoc, append-nil}
 use Prim.Native.Nat.{ℕ, zero, suc, _+_, _-_, _*_, _≤_, _<_}
-use native.Mathlib.Nat.{mul-le-mul, lt-of-le-of-lt, zero-add}
+use native.Mathlib.Nat.{mul-le-mul, lt-of-le-of-lt}
 use native.Mathlib.Omega.{arith}
 use lib.Dec.{lit<}
 use lib.ListN.{length, getD, set, length-set, length-append}
 use mir.Syntax.{w64}
 use mir.Val.{Fits}
+use Rattle.terms.specs.declared.Sizes.{Sizes}
 use Rattle.terms.specs.Limits.{bMost, sMost}
-use Rattle.little.specs.Little.{numberBytes}
-use Rattle.little.proofs.Round.{number-length}
+use Rattle.image_little.specs.Little.{numberBytes}
+use Rattle.image_little.proofs.Round.{number-length}
 use Rattle.table.specs.Store.{Store, storeOf}
-use Rattle.records.specs.Records.{fieldBytes, recordBytes, manyBytes}
-use Rattle.records.specs.Images.{partBytes, imageBytes}
-use Rattle.records.specs.First.{first}
-use Rattle.records.specs.Stores.{singlesIn, rowIn, partsIn, imageIn}
+use Rattle.image_records.specs.Records.{fieldBytes, recordBytes, manyBytes}
+use Rattle.image_records.specs.Images.{partBytes, imageBytes}
+use Rattle.image_records.specs.First.{first}
+use Rattle.image_records.specs.Stores.{singlesIn, rowIn, partsIn, imageIn}
 use Rattle.lists.specs.Over.{over, Space, Writing}
 use Rattle.lists.proofs.Over.{length-over, over-append, writing-start, writing-step, writing-end, writing-place}
-use Rattle.image_put.specs.Pieces.{byteBytes, pairBytes, lineBytes, keyBytes, keysBytes, headBytes, segmentBytes, rowBytes, pieceBytes, piecesBytes, endBytes, KeysRoom, RowRoom, PieceRoom, PiecesRoom, ImageRoom}
+use Rattle.image_put.specs.Pieces.{byteBytes, pairBytes, lineBytes, keyBytes, keysBytes, headBytes, segmentBytes, rowBytes, pieceBytes, piecesBytes, endBytes, restBytes, KeysRoom, RowRoom, PieceRoom, PiecesRoom, RestRoom, ImageRoom}
 
 -- ---- lengths
 pub key-length : (kind x : ℕ) → length (keyBytes kind x) ≡ 7
@@ -88,10 +89,11 @@ module _ (l : List ℕ) (e b n s : ℕ) where
   pub head-place : 9 ≡ 0 + length (headBytes e b n s)
   head-place = rw (head-length e b n s)
 
-  pub head-written : {l₁ l₂ l₃ : List ℕ} → l₁ ≡ over l 0 (byteBytes 1) → l₂ ≡ over l₁ 1 (pairBytes e b) → l₃ ≡ over l₂ 5 (pairBytes n s) → l₃ ≡ over l 0 (headBytes e b n s)
-  head-written f₁ f₂ f₃ =
-      let g₂ : _ = joined l 0 (byteBytes 1) f₁ 1 (pairBytes e b) f₂ (rw (byte-length 1)) in
-      joined l 0 _ g₂ 5 (pairBytes n s) f₃ (simp (length-append, byte-length, pair-length)) ∙ ap (over l 0) (head-is e b n s)
+  pub head-written : {e′ b′ n′ s′ : ℕ} → e′ ≡ e → b′ ≡ b → n′ ≡ n → s′ ≡ s → {l₁ l₂ l₃ : List ℕ} → l₁ ≡ over l 0 (byteBytes 1) → l₂ ≡ over l₁ 1 (pairBytes e′ b′)
+      → l₃ ≡ over l₂ 5 (pairBytes n′ s′) → l₃ ≡ over l 0 (headBytes e b n s)
+  head-written qe qb qn qs f₁ f₂ f₃ =
+      let g₂ : _ = joined l 0 (byteBytes 1) f₁ 1 (pairBytes e b) (f₂ ∙ rw (qe, qb)) (rw (byte-length 1)) in
+      joined l 0 _ g₂ 5 (pairBytes n s) (f₃ ∙ rw (qn, qs)) (simp (length-append, byte-length, pair-length)) ∙ ap (over l 0) (head-is e b n s)
 
 pub ruleset head-cases = (head-place, head-written)
 
@@ -234,14 +236,14 @@ module _ (l₀ : List ℕ) (at b : ℕ) (t buffers : List ℕ) (s : ℕ) where
   abbrev all-pieces : List ℕ
   all-pieces = piecesBytes b t buffers 0 s
 
-  pub pieces-start : PiecesRoom l₀ at b t buffers 0 s → Writing l₀ at all-pieces l₀ at all-pieces
+  pub pieces-start : PiecesRoom l₀ at b t buffers s → Writing l₀ at all-pieces l₀ at all-pieces
   pieces-start r = writing-start l₀ at all-pieces (r .space)
 
   module _ (l : List ℕ) (p i left : ℕ) (w : Writing l₀ at all-pieces l p (piecesBytes b t buffers i left)) where
     more : 0 < left → piecesBytes b t buffers i left ≡ pieceBytes b t buffers i ++ piecesBytes b t buffers (i + 1) (left - 1)
     more h = let e : left ≡ suc (left - 1) = omega arith in ap (piecesBytes b t buffers i) e ∙ pieces-more b t buffers i (left - 1)
 
-    pub piece-asks : 0 < left → i + left ≡ s → PiecesRoom l₀ at b t buffers 0 s → PieceRoom l p b t buffers i
+    pub piece-asks : 0 < left → i + left ≡ s → PiecesRoom l₀ at b t buffers s → PieceRoom l p b t buffers i
     piece-asks h c r =
         let f : length (piecesBytes b t buffers i left) ≡ length (pieceBytes b t buffers i) + length (piecesBytes b t buffers (i + 1) (left - 1)) =
         ap length (more h) ∙ length-append (pieceBytes b t buffers i) (piecesBytes b t buffers (i + 1) (left - 1)) in
@@ -250,7 +252,7 @@ module _ (l₀ : List ℕ) (at b : ℕ) (t buffers : List ℕ) (s : ℕ) where
           row = omega (arith, r .rows);
           few = omega (arith, r .few);
           small = r .small;
-          slots = r .slots i (omega arith) (omega arith);
+          slots = r .slots i (omega arith);
         }
 
     pub pieces-turn : 0 < left → {l′ : List ℕ} {q : ℕ} → l′ ≡ over l p (pieceBytes b t buffers i) → q ≡ p + length (pieceBytes b t buffers i)
@@ -270,76 +272,84 @@ module _ (l₀ : List ℕ) (at b : ℕ) (t buffers : List ℕ) (s : ℕ) where
 
 pub ruleset pieces-cases = (pieces-start, piece-asks, pieces-turn, pieces-end, pieces-place)
 
--- ---- the head, of counts
-module _ (l : List ℕ) (e b n s : ℕ) {e′ b′ n′ s′ : ℕ} (qe : e′ ≡ e) (qb : b′ ≡ b) (qn : n′ ≡ n) (qs : s′ ≡ s) where
-  pub start-place : {r : ℕ} → r ≡ 0 + length (headBytes e′ b′ n′ s′) → r ≡ 0 + length (headBytes e b n s)
-  start-place g = g ∙ rw (qe, qb, qn, qs)
+-- ---- the segments, then the end
+rest-is : (b : ℕ) (t buffers : List ℕ) (s : ℕ) → restBytes b t buffers s ≡ piecesBytes b t buffers 0 s ++ endBytes
+unfolding restBytes
+rest-is b t buffers s = refl
 
-  pub start-written : {l′ : List ℕ} → l′ ≡ over l 0 (headBytes e′ b′ n′ s′) → l′ ≡ over l 0 (headBytes e b n s)
-  start-written g = g ∙ rw (qe, qb, qn, qs)
+pub rest-length : (b : ℕ) (t buffers : List ℕ) (s : ℕ) → length (restBytes b t buffers s) ≡ length (piecesBytes b t buffers 0 s) + 1
+rest-length b t buffers s = ap length (rest-is b t buffers s) ∙ length-append (piecesBytes b t buffers 0 s) endBytes ∙ rw end-length
 
-pub ruleset start-cases = (start-place, start-written)
+module _ (l : List ℕ) (at b : ℕ) (t buffers : List ℕ) (s : ℕ) {l₁ : List ℕ} (e : l₁ ≡ over l at (piecesBytes b t buffers 0 s)) {p : ℕ}
+    (f : p ≡ at + length (piecesBytes b t buffers 0 s)) where
+  pub end-asks : RestRoom l at b t buffers s → Space l₁ p 1
+  end-asks r = let n : length l₁ ≡ length l = ap length e ∙ length-over l at (piecesBytes b t buffers 0 s) in record { inside = omega (arith, r .end) }
+
+  pub rest-place : {q : ℕ} → q ≡ p + length endBytes → q ≡ at + length (restBytes b t buffers s)
+  rest-place g = omega (arith, f, end-length, rest-length b t buffers s)
+
+  pub rest-written : {l₂ : List ℕ} → l₂ ≡ over l₁ p endBytes → l₂ ≡ over l at (restBytes b t buffers s)
+  rest-written g = rw (rest-is b t buffers s) (joined l at (piecesBytes b t buffers 0 s) e p endBytes g f)
+
+pub ruleset rest-cases = (end-asks, rest-place, rest-written)
 
 -- ---- the whole image
-module _ (l : List ℕ) (e b n s : ℕ) (keys table buffers : List ℕ) where
+image-is : (σ : Store) → imageBytes first (imageIn σ) ≡ headBytes (σ .e) (σ .b) (σ .n) (σ .s) ++ (keysBytes 2 (σ .keys) 0 (σ .n) ++ restBytes (σ .b) (σ .table) (σ .buffers) (σ .s))
+unfolding imageBytes imageIn headBytes keysBytes piecesBytes endBytes restBytes
+image-is σ = refl
+
+pub image-length : (σ : Store) → length (imageBytes first (imageIn σ)) ≡ 9 + (7 * σ .n + length (restBytes (σ .b) (σ .table) (σ .buffers) (σ .s)))
+image-length σ =
+    let run : List ℕ = keysBytes 2 (σ .keys) 0 (σ .n) in
+    let rest : List ℕ = restBytes (σ .b) (σ .table) (σ .buffers) (σ .s) in
+    ap length (image-is σ) ∙ length-append (headBytes (σ .e) (σ .b) (σ .n) (σ .s)) (run ++ rest) ∙
+    omega (arith, head-length (σ .e) (σ .b) (σ .n) (σ .s), length-append run rest, keys-length 2 (σ .keys) 0 (σ .n))
+
+module _ (l : List ℕ) (z : Sizes) (keys table buffers : List ℕ) where
+  abbrev head : List ℕ
+  head = headBytes (z .e) (z .b) (z .n) (z .s)
+
+  abbrev run : List ℕ
+  run = keysBytes 2 keys 0 (z .n)
+
   abbrev σ : Store
-  σ = storeOf e b n s keys table buffers
-
-  abbrev whole : List ℕ
-  whole = imageBytes first (imageIn σ)
-
-  pub image-is : whole ≡ headBytes e b n s ++ (keysBytes 2 keys 0 n ++ (piecesBytes b table buffers 0 s ++ endBytes))
-  unfolding imageBytes imageIn headBytes keysBytes piecesBytes endBytes
-  image-is = refl
+  σ = storeOf z keys table buffers
 
   module _ (r : ImageRoom l σ) where
-    start : Writing l 0 whole l 0 (headBytes e b n s ++ (keysBytes 2 keys 0 n ++ (piecesBytes b table buffers 0 s ++ endBytes)))
-    start = subst (λ (z : List ℕ). Writing l 0 whole l 0 z) image-is (writing-start l 0 whole (rw zero-add (r .space)))
-
     pub head-asks : Space l 0 9
-    head-asks =
-        let m : _ = length-append (headBytes e b n s) (keysBytes 2 keys 0 n ++ (piecesBytes b table buffers 0 s ++ endBytes)) in
-        record { inside = omega (arith, m, head-length e b n s, start .room) }
+    head-asks = record { inside = omega (arith, image-length σ, r .space) }
 
-    module _ {l₁ : List ℕ} (w₁ : l₁ ≡ over l 0 (headBytes e b n s)) {p₁ : ℕ} (q₁ : p₁ ≡ 0 + length (headBytes e b n s)) where
-      step₁ : Writing l 0 whole l₁ p₁ (keysBytes 2 keys 0 n ++ (piecesBytes b table buffers 0 s ++ endBytes))
-      step₁ = writing-step l 0 whole l 0 (headBytes e b n s) _ start l₁ w₁ p₁ q₁
-
-      pub run-asks : KeysRoom l₁ p₁ 2 keys 0 n
+    module _ {l₁ : List ℕ} (w₁ : l₁ ≡ over l 0 head) {p₁ : ℕ} (q₁ : p₁ ≡ 0 + length head) where
+      pub run-asks : KeysRoom l₁ p₁ 2 keys 0 (z .n)
       run-asks =
-          let m : _ = length-append (keysBytes 2 keys 0 n) (piecesBytes b table buffers 0 s ++ endBytes) in
-          record { space = omega (arith, m, step₁ .room, step₁ .same); inside = omega (arith, r .limits .keys-hold) }
+          let n : length l₁ ≡ length l = ap length w₁ ∙ length-over l 0 head in
+          record {
+            space = omega (arith, image-length σ, r .space, head-length (z .e) (z .b) (z .n) (z .s), keys-length 2 keys 0 (z .n));
+            inside = omega (arith, r .limits .keys-hold);
+          }
 
-      module _ {l₂ : List ℕ} (w₂ : l₂ ≡ over l₁ p₁ (keysBytes 2 keys 0 n)) {p₂ : ℕ} (q₂ : p₂ ≡ p₁ + length (keysBytes 2 keys 0 n)) where
-        step₂ : Writing l 0 whole l₂ p₂ (piecesBytes b table buffers 0 s ++ endBytes)
-        step₂ = writing-step l 0 whole l₁ p₁ (keysBytes 2 keys 0 n) _ step₁ l₂ w₂ p₂ q₂
+      pub rest-asks : {l₂ : List ℕ} → l₂ ≡ over l₁ p₁ run → {p₂ : ℕ} → p₂ ≡ p₁ + length run → RestRoom l₂ p₂ (z .b) table buffers (z .s)
+      rest-asks {l₂} w₂ {p₂} q₂ =
+          let n : length l₂ ≡ length l = ap length w₂ ∙ length-over l₁ p₁ run ∙ ap length w₁ ∙ length-over l 0 head in
+          let end : p₂ + length (piecesBytes (z .b) table buffers 0 (z .s)) + 1 ≤ length l₂ =
+          omega (arith, image-length σ, r .space, head-length (z .e) (z .b) (z .n) (z .s), keys-length 2 keys 0 (z .n), rest-length (z .b) table buffers (z .s)) in
+          record {
+            pieces = record { space = omega arith; rows = r .limits .table-holds; few = r .limits .s-most; small = r .limits .b-most; slots = r .slots };
+            end = end;
+          }
 
-        pub pieces-asks : PiecesRoom l₂ p₂ b table buffers 0 s
-        pieces-asks =
-            let m : _ = length-append (piecesBytes b table buffers 0 s) endBytes in
-            record {
-              space = omega (arith, m, step₂ .room, step₂ .same);
-              rows = omega (arith, r .limits .table-holds);
-              few = omega (arith, r .limits .s-most);
-              small = r .limits .b-most;
-              slots = λ j g h. r .slots j (omega arith);
-            }
+-- what stands there then
+module _ (l : List ℕ) (σ : Store) {l₁ : List ℕ} (w₁ : l₁ ≡ over l 0 (headBytes (σ .e) (σ .b) (σ .n) (σ .s))) {p₁ : ℕ} (q₁ : p₁ ≡ 0 + length (headBytes (σ .e) (σ .b) (σ .n) (σ .s)))
+    {p₂ : ℕ} (q₂ : p₂ ≡ p₁ + length (keysBytes 2 (σ .keys) 0 (σ .n))) where
+  abbrev back : List ℕ
+  back = restBytes (σ .b) (σ .table) (σ .buffers) (σ .s)
 
-        module _ {l₃ : List ℕ} (w₃ : l₃ ≡ over l₂ p₂ (piecesBytes b table buffers 0 s)) {p₃ : ℕ} (q₃ : p₃ ≡ p₂ + length (piecesBytes b table buffers 0 s)) where
-          step₃ : Writing l 0 whole l₃ p₃ endBytes
-          step₃ = writing-step l 0 whole l₂ p₂ (piecesBytes b table buffers 0 s) endBytes step₂ l₃ w₃ p₃ q₃
+  pub image-place : {p₃ : ℕ} → p₃ ≡ p₂ + length back → p₃ ≡ length (imageBytes first (imageIn σ))
+  image-place q₃ = omega (arith, q₁, q₂, image-length σ, head-length (σ .e) (σ .b) (σ .n) (σ .s), keys-length 2 (σ .keys) 0 (σ .n))
 
-          pub end-asks : Space l₃ p₃ 1
-          end-asks = record { inside = omega (arith, end-length, step₃ .room, step₃ .same) }
+  pub image-written : {l₂ : List ℕ} → l₂ ≡ over l₁ p₁ (keysBytes 2 (σ .keys) 0 (σ .n)) → {l₃ : List ℕ} → l₃ ≡ over l₂ p₂ back → l₃ ≡ over l 0 (imageBytes first (imageIn σ))
+  image-written {l₂} w₂ {l₃} w₃ =
+      let e : l₃ ≡ over l₁ p₁ (keysBytes 2 (σ .keys) 0 (σ .n) ++ back) = joined l₁ p₁ (keysBytes 2 (σ .keys) 0 (σ .n)) w₂ p₂ back w₃ q₂ in
+      joined l 0 (headBytes (σ .e) (σ .b) (σ .n) (σ .s)) w₁ p₁ (keysBytes 2 (σ .keys) 0 (σ .n) ++ back) e q₁ ∙ ap (over l 0) (sym (image-is σ))
 
-          module _ {l₄ : List ℕ} (w₄ : l₄ ≡ over l₃ p₃ endBytes) {p₄ : ℕ} (q₄ : p₄ ≡ p₃ + length endBytes) where
-            step₄ : Writing l 0 whole l₄ p₄ []
-            step₄ = writing-step l 0 whole l₃ p₃ endBytes [] (subst (λ (z : List ℕ). Writing l 0 whole l₃ p₃ z) (sym (append-nil endBytes)) step₃) l₄ w₄ p₄ q₄
-
-            pub image-written : l₄ ≡ over l 0 whole
-            image-written = writing-end l 0 whole l₄ p₄ step₄
-
-            pub image-place : p₄ ≡ length whole
-            image-place = writing-place l 0 whole l₄ p₄ step₄ ∙ zero-add (length whole)
-
-pub ruleset image-cases = (head-asks, run-asks, pieces-asks, end-asks, image-written, image-place)
+pub ruleset image-cases = (head-asks, run-asks, rest-asks, image-place, image-written)

@@ -3,13 +3,13 @@ use mathlib.Core.List.{List, [], _∷_, _++_}
 use Prim.Native.Nat.{ℕ, _+_, _*_, _≤_, _<_}
 use lib.ListN.{length, getD}
 use Rattle.terms.specs.Limits.{bMost, sMost}
-use Rattle.little.specs.Little.{numberBytes}
+use Rattle.image_little.specs.Little.{numberBytes}
 use Rattle.table.specs.Store.{Store}
 use Rattle.table.specs.Limits.{Limits}
-use Rattle.records.specs.Records.{shape, recordBytes, manyBytes}
-use Rattle.records.specs.Images.{partBytes, imageBytes}
-use Rattle.records.specs.First.{first}
-use Rattle.records.specs.Stores.{singlesIn, rowIn, partsIn, imageIn}
+use Rattle.image_records.specs.Records.{shape, recordBytes, manyBytes}
+use Rattle.image_records.specs.Images.{partBytes, imageBytes}
+use Rattle.image_records.specs.First.{first}
+use Rattle.image_records.specs.Stores.{singlesIn, rowIn, partsIn, imageIn}
 
 unfoldable pub byteBytes : ℕ → List ℕ
 byteBytes x = x ∷ []
@@ -44,6 +44,9 @@ pieceBytes b t buffers i = rowBytes t i ++ keysBytes 4 buffers (i * b) (getD t (
 unfoldable pub piecesBytes : ℕ → List ℕ → List ℕ → ℕ → ℕ → List ℕ
 piecesBytes b t buffers i count = partBytes first (partsIn b t buffers i count)
 
+unfoldable pub restBytes : ℕ → List ℕ → List ℕ → ℕ → List ℕ
+restBytes b t buffers s = piecesBytes b t buffers 0 s ++ endBytes
+
 -- ---- room
 pub record KeysRoom (l : List ℕ) (at kind : ℕ) (cells : List ℕ) (from count : ℕ) : Type 0 where
   pub space : at + length (keysBytes kind cells from count) ≤ length l
@@ -61,13 +64,18 @@ pub record PieceRoom (l : List ℕ) (at b : ℕ) (t buffers : List ℕ) (i : ℕ
   pub small : b ≤ bMost
   pub slots : i * b + getD t (5 * i + 4) 0 ≤ length buffers
 
--- `count` segments from i on, of s
-pub record PiecesRoom (l : List ℕ) (at b : ℕ) (t buffers : List ℕ) (i count : ℕ) : Type 0 where
-  pub space : at + length (piecesBytes b t buffers i count) ≤ length l
-  pub rows : 5 * (i + count) ≤ length t
-  pub few : i + count ≤ sMost
+-- s segments
+pub record PiecesRoom (l : List ℕ) (at b : ℕ) (t buffers : List ℕ) (s : ℕ) : Type 0 where
+  pub space : at + length (piecesBytes b t buffers 0 s) ≤ length l
+  pub rows : 5 * s ≤ length t
+  pub few : s ≤ sMost
   pub small : b ≤ bMost
-  pub slots : (j : ℕ) → i ≤ j → j < i + count → j * b + getD t (5 * j + 4) 0 ≤ length buffers
+  pub slots : (j : ℕ) → j < s → j * b + getD t (5 * j + 4) 0 ≤ length buffers
+
+-- and the end
+pub record RestRoom (l : List ℕ) (at b : ℕ) (t buffers : List ℕ) (s : ℕ) : Type 0 where
+  pub pieces : PiecesRoom l at b t buffers s
+  pub end : at + length (piecesBytes b t buffers 0 s) + 1 ≤ length l
 
 pub record ImageRoom (l : List ℕ) (σ : Store) : Type 0 where
   pub space : length (imageBytes first (imageIn σ)) ≤ length l

@@ -1,14 +1,15 @@
 // The writing pass: the image of a store, first edition, over a slice of bytes. Each function writes the bytes that its promise names over the
 // slice from `at` on, and answers the place after them.
+use terms::Sizes;
 ghost use mathlib.Core.Path.{_≡_};
 ghost use Prim.Native.Nat.{_+_};
 ghost use lib.ListN.{length};
 ghost use Rattle.table.specs.Store.{storeOf};
-ghost use Rattle.records.specs.Images.{imageBytes};
-ghost use Rattle.records.specs.First.{first};
-ghost use Rattle.records.specs.Stores.{imageIn};
+ghost use Rattle.image_records.specs.Images.{imageBytes};
+ghost use Rattle.image_records.specs.First.{first};
+ghost use Rattle.image_records.specs.Stores.{imageIn};
 ghost use Rattle.lists.specs.Over.{over, Space};
-ghost use Rattle.image_put.specs.Pieces.{byteBytes, pairBytes, lineBytes, keyBytes, keysBytes, headBytes, segmentBytes, rowBytes, pieceBytes, piecesBytes, endBytes, KeysRoom, RowRoom, PieceRoom, PiecesRoom, ImageRoom};
+ghost use Rattle.image_put.specs.Pieces.{byteBytes, pairBytes, lineBytes, keyBytes, keysBytes, headBytes, segmentBytes, rowBytes, pieceBytes, piecesBytes, endBytes, restBytes, KeysRoom, RowRoom, PieceRoom, PiecesRoom, RestRoom, ImageRoom};
 
 // Stored by a call, after which the length of the slice is known.
 fn byte(dst: &mut [u8], at: usize, x: u8)
@@ -25,7 +26,7 @@ fn put_key(dst: &mut [u8], at: usize, kind: u8, x: u64) -> usize
     ensures cells { λ r. ⌜ now (dst .exit) ≡ over (now (dst .entry)) at (keyBytes kind x) ⌝ }
 {
     byte(dst, at, kind);
-    little::put(dst, at + 1, 6, x);
+    image_little::put(dst, at + 1, 6, x);
     at + 7
 }
 
@@ -51,19 +52,26 @@ fn put_pair(dst: &mut [u8], at: usize, x: u64, y: u64)
     requires { ⌜ Space (now dst) at 4 ⌝ }
     ensures { λ _. ⌜ now (dst .exit) ≡ over (now (dst .entry)) at (pairBytes x y) ⌝ }
 {
-    little::put(dst, at, 2, x);
-    little::put(dst, at + 2, 2, y);
+    image_little::put(dst, at, 2, x);
+    image_little::put(dst, at + 2, 2, y);
+}
+
+// A count as a number.
+fn cell(x: usize) -> u64
+    ensures { λ r. ⌜ r ≡ x ⌝ }
+{
+    x as u64
 }
 
 // The head.
-fn put_head(dst: &mut [u8], e: u64, b: u64, n: u64, s: u64) -> usize
+fn put_head(dst: &mut [u8], z: Sizes) -> usize
     requires { ⌜ Space (now dst) 0 9 ⌝ }
-    ensures place { λ r. ⌜ r ≡ 0 + length (headBytes e b n s) ⌝ }
-    ensures cells { λ r. ⌜ now (dst .exit) ≡ over (now (dst .entry)) 0 (headBytes e b n s) ⌝ }
+    ensures place { λ r. ⌜ r ≡ 0 + length (headBytes (z .e) (z .b) (z .n) (z .s)) ⌝ }
+    ensures cells { λ r. ⌜ now (dst .exit) ≡ over (now (dst .entry)) 0 (headBytes (z .e) (z .b) (z .n) (z .s)) ⌝ }
 {
     byte(dst, 0, 1);
-    put_pair(dst, 1, e, b);
-    put_pair(dst, 5, n, s);
+    put_pair(dst, 1, cell(z.e), cell(z.b));
+    put_pair(dst, 5, cell(z.n), cell(z.s));
     9
 }
 
@@ -73,7 +81,7 @@ fn put_line(dst: &mut [u8], at: usize, base: u64, rise: u64, run: u64)
     ensures { λ _. ⌜ now (dst .exit) ≡ over (now (dst .entry)) at (lineBytes base rise run) ⌝ }
 {
     put_pair(dst, at, base, rise);
-    little::put(dst, at + 4, 6, run);
+    image_little::put(dst, at + 4, 6, run);
 }
 
 // A segment's record, of its five numbers: it starts as a record of its first key would.
@@ -92,7 +100,7 @@ fn put_segment(
 {
     put_key(dst, at, 3, first);
     put_line(dst, at + 7, base, rise, run);
-    little::put(dst, at + 17, 1, held);
+    image_little::put(dst, at + 17, 1, held);
     at + 18
 }
 
@@ -104,13 +112,6 @@ fn put_end(dst: &mut [u8], at: usize) -> usize
 {
     byte(dst, at, 9);
     at + 1
-}
-
-// A number of the table as a count.
-fn size(x: u64) -> usize
-    ensures { λ r. ⌜ r ≡ x ⌝ }
-{
-    x as usize
 }
 
 // Segment i's record.
@@ -133,7 +134,7 @@ fn put_piece(dst: &mut [u8], at: usize, b: usize, table: &[u64], buffers: &[u64]
     ensures place { λ r. ⌜ r ≡ at + length (pieceBytes b (now (table .entry)) (now (buffers .entry)) i) ⌝ }
     ensures cells { λ r. ⌜ now (dst .exit) ≡ over (now (dst .entry)) at (pieceBytes b (now (table .entry)) (now (buffers .entry)) i) ⌝ }
 {
-    let h = size(table[5 * i + 4]);
+    let h = terms::size(table[5 * i + 4]);
     let p = put_row(dst, at, table, i);
     put_keys(dst, p, 4, buffers, i * b, h)
 }
@@ -147,7 +148,7 @@ fn put_pieces(
     buffers: &[u64],
     s: usize,
 ) -> usize
-    requires { ⌜ PiecesRoom (now dst) at b (now table) (now buffers) 0 s ⌝ }
+    requires { ⌜ PiecesRoom (now dst) at b (now table) (now buffers) s ⌝ }
     ensures place { λ r. ⌜ r ≡ at + length (piecesBytes b (now (table .entry)) (now (buffers .entry)) 0 s) ⌝ }
     ensures cells { λ r. ⌜ now (dst .exit) ≡ over (now (dst .entry)) at (piecesBytes b (now (table .entry)) (now (buffers .entry)) 0 s) ⌝ }
 {
@@ -162,39 +163,23 @@ fn put_pieces(
     p
 }
 
-// A count as a number.
-fn cell(x: usize) -> u64
-    ensures { λ r. ⌜ r ≡ x ⌝ }
+// The segments, then the end.
+fn put_rest(dst: &mut [u8], at: usize, b: usize, table: &[u64], buffers: &[u64], s: usize) -> usize
+    requires { ⌜ RestRoom (now dst) at b (now table) (now buffers) s ⌝ }
+    ensures place { λ r. ⌜ r ≡ at + length (restBytes b (now (table .entry)) (now (buffers .entry)) s) ⌝ }
+    ensures cells { λ r. ⌜ now (dst .exit) ≡ over (now (dst .entry)) at (restBytes b (now (table .entry)) (now (buffers .entry)) s) ⌝ }
 {
-    x as u64
-}
-
-// The head, of counts.
-fn put_start(dst: &mut [u8], e: usize, b: usize, n: usize, s: usize) -> usize
-    requires { ⌜ Space (now dst) 0 9 ⌝ }
-    ensures place { λ r. ⌜ r ≡ 0 + length (headBytes e b n s) ⌝ }
-    ensures cells { λ r. ⌜ now (dst .exit) ≡ over (now (dst .entry)) 0 (headBytes e b n s) ⌝ }
-{
-    put_head(dst, cell(e), cell(b), cell(n), cell(s))
+    let p = put_pieces(dst, at, b, table, buffers, s);
+    put_end(dst, p)
 }
 
 // The whole image of a store that can be written, over a slice with room for it.
-pub fn put_image(
-    dst: &mut [u8],
-    e: usize,
-    b: usize,
-    n: usize,
-    s: usize,
-    keys: &[u64],
-    table: &[u64],
-    buffers: &[u64],
-) -> usize
-    requires { ⌜ ImageRoom (now dst) (storeOf e b n s (now keys) (now table) (now buffers)) ⌝ }
-    ensures place { λ r. ⌜ r ≡ length (imageBytes first (imageIn (storeOf e b n s (now (keys .entry)) (now (table .entry)) (now (buffers .entry))))) ⌝ }
-    ensures cells { λ r. ⌜ now (dst .exit) ≡ over (now (dst .entry)) 0 (imageBytes first (imageIn (storeOf e b n s (now (keys .entry)) (now (table .entry)) (now (buffers .entry))))) ⌝ }
+pub fn put_image(dst: &mut [u8], z: Sizes, keys: &[u64], table: &[u64], buffers: &[u64]) -> usize
+    requires { ⌜ ImageRoom (now dst) (storeOf z (now keys) (now table) (now buffers)) ⌝ }
+    ensures place { λ r. ⌜ r ≡ length (imageBytes first (imageIn (storeOf z (now (keys .entry)) (now (table .entry)) (now (buffers .entry))))) ⌝ }
+    ensures cells { λ r. ⌜ now (dst .exit) ≡ over (now (dst .entry)) 0 (imageBytes first (imageIn (storeOf z (now (keys .entry)) (now (table .entry)) (now (buffers .entry))))) ⌝ }
 {
-    let p = put_start(dst, e, b, n, s);
-    let q = put_keys(dst, p, 2, keys, 0, n);
-    let r = put_pieces(dst, q, b, table, buffers, s);
-    put_end(dst, r)
+    let p = put_head(dst, z);
+    let q = put_keys(dst, p, 2, keys, 0, z.n);
+    put_rest(dst, q, z.b, table, buffers, z.s)
 }

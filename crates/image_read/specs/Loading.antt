@@ -3,13 +3,14 @@ use mathlib.Core.Bool.{Bool}
 use mathlib.Core.List.{List}
 use Prim.Native.Nat.{ℕ}
 use lib.Dec.{leb}
+use Rattle.terms.specs.declared.Sizes.{Sizes}
 use Rattle.terms.specs.declared.Refusal.the-variants.{KeyRoom, SegmentRoom}
 use Rattle.lists.specs.Tests.{pick}
 use Rattle.lists.specs.Over.{over}
 use Rattle.table.specs.Limits.{keyRoom, segmentRoom}
-use Rattle.records.specs.Images.{layoutOf, imageAt}
-use Rattle.records.specs.First.{first}
-use Rattle.records.specs.Stores.{firsts, rowsOf, slotsBy}
+use Rattle.image_records.specs.Images.{layoutOf, imageAt}
+use Rattle.image_records.specs.First.{first}
+use Rattle.image_records.specs.Stores.{firsts, rowsOf, slotsBy}
 use Rattle.image_judge.specs.Judging.{judgedOf}
 use Rattle.image_judge.specs.declared.Judged.{Judged}
 use Rattle.image_judge.specs.declared.Judged.the-variants.{Well, Refused as Unwell}
@@ -24,12 +25,12 @@ unfoldable pub segmentsHeld : ℕ → ℕ → List ℕ → List ℕ → Bool
 segmentsHeld b s table buffers = leb s (segmentRoom b table buffers)
 
 -- "6: image: n above it" (key room); "7: result needs more segments than segment room"
-unfoldable pub roomedOf : ℕ → ℕ → ℕ → ℕ → List ℕ → List ℕ → List ℕ → Loaded
-roomedOf e b n s keys table buffers =
-    pick (keysHeld n keys) (pick (segmentsHeld b s table buffers) (Store e b n s) (Refused SegmentRoom)) (Refused KeyRoom)
+unfoldable pub roomedOf : Sizes → List ℕ → List ℕ → List ℕ → Loaded
+roomedOf z keys table buffers =
+    pick (keysHeld (z .n) keys) (pick (segmentsHeld (z .b) (z .s) table buffers) (Store (z .e) (z .b) (z .n) (z .s)) (Refused SegmentRoom)) (Refused KeyRoom)
 
 abbrev pub afterJudged : Judged → List ℕ → List ℕ → List ℕ → Loaded
-afterJudged (Well e b n s) keys table buffers = roomedOf e b n s keys table buffers
+afterJudged (Well z) keys table buffers = roomedOf z keys table buffers
 afterJudged (Unwell r) keys table buffers = Refused r
 
 -- 10 (head), 1, 10 (rest), then 6 and 7

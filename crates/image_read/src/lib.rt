@@ -2,6 +2,7 @@
 use answers::Loaded;
 use image_judge::Judged;
 use terms::Refusal;
+use terms::Sizes;
 ghost use mathlib.Core.Path.{_≡_};
 ghost use Prim.Native.Nat.{_<_};
 ghost use Rattle.table.specs.Limits.{Counted};
@@ -23,21 +24,18 @@ fn segments_held(b: usize, s: usize, table: &[u64], buffers: &[u64]) -> bool
 }
 
 // Refusals 6 and 7, for counts within their limits.
-fn roomed(
-    e: usize,
-    b: usize,
-    n: usize,
-    s: usize,
-    keys: &[u64],
-    table: &[u64],
-    buffers: &[u64],
-) -> Loaded
-    requires { ⌜ Counted e b n s ⌝ }
-    ensures { λ r. ⌜ r ≡ roomedOf e b n s (now (keys .entry)) (now (table .entry)) (now (buffers .entry)) ⌝ }
+fn roomed(z: Sizes, keys: &[u64], table: &[u64], buffers: &[u64]) -> Loaded
+    requires { ⌜ Counted (z .e) (z .b) (z .n) (z .s) ⌝ }
+    ensures { λ r. ⌜ r ≡ roomedOf z (now (keys .entry)) (now (table .entry)) (now (buffers .entry)) ⌝ }
 {
-    if keys_held(n, keys) {
-        if segments_held(b, s, table, buffers) {
-            return Loaded::Store { e, b, n, s };
+    if keys_held(z.n, keys) {
+        if segments_held(z.b, z.s, table, buffers) {
+            return Loaded::Store {
+                e: z.e,
+                b: z.b,
+                n: z.n,
+                s: z.s,
+            };
         }
         return Loaded::Refused(Refusal::SegmentRoom);
     }
@@ -50,7 +48,7 @@ fn decide(image: &[u8], keys: &[u64], table: &[u64], buffers: &[u64]) -> Loaded
 {
     let a = image_judge::judge(image);
     match a {
-        Judged::Well { e, b, n, s } => roomed(e, b, n, s, keys, table, buffers),
+        Judged::Well(z) => roomed(z, keys, table, buffers),
         Judged::Refused(r) => Loaded::Refused(r),
     }
 }
@@ -64,7 +62,7 @@ fn carry_out(image: &[u8], keys: &mut [u64], table: &mut [u64], buffers: &mut [u
 {
     match a {
         Loaded::Store { e, b, n, s } => {
-            image_fill::fill(image, b, n, s, keys, table, buffers);
+            image_fill::fill(image, Sizes { e, b, n, s }, keys, table, buffers);
         }
         Loaded::Refused(r) => {}
     }

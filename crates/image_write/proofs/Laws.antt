@@ -2,7 +2,7 @@
 -- Assumes nothing.
 use mathlib.Core.Path.{_≡_, refl, sym, ap, _∙_}
 use mathlib.Core.Bool.{Bool, true, false}
-use mathlib.Core.List.{List, [], _∷_, _++_}
+use mathlib.Core.List.{List, [], _∷_}
 use Prim.Native.Nat.{ℕ, zero, suc, _+_, _-_, _*_, _^_, _≤_, _<_}
 use native.Mathlib.Nat.{mul-le-mul, mul-le-mul-right, lt-of-le-of-lt, add-mul, one-mul}
 use native.Mathlib.Omega.{arith}
@@ -11,11 +11,12 @@ use lib.ListN.{length, getD, length-append}
 use mir.Syntax.{w64}
 use mir.Val.{Fits}
 use borrow.Author.Tests.{le-leb, lt-leb, leb-true, ltb-true, lt-ltb, le-ltb}
+use Rattle.terms.specs.declared.Sizes.{Sizes}
 use Rattle.terms.specs.Limits.{bMost, sMost}
 use Rattle.terms.specs.declared.Refusal.{Refusal}
 use Rattle.terms.specs.declared.Refusal.the-variants.{Limits as OutOfLimits, StoreWrong, OutRoom}
 use Rattle.lists.specs.Tests.{both, all}
-use Rattle.lists.specs.Over.{over}
+use Rattle.lists.specs.Over.{over, Space}
 use Rattle.lists.proofs.Tests.{all-each, either, clash}
 use Rattle.scan.specs.declared.Found.{Found}
 use Rattle.scan.specs.declared.Found.the-variants.{At, Nothing}
@@ -24,15 +25,16 @@ use Rattle.scan.proofs.Laws.{fail-here, fail-on, fail-end, none-here, none-end}
 use Rattle.scan.proofs.Meaning.{passes}
 use Rattle.table.specs.Store.{Store, storeOf}
 use Rattle.table.specs.Limits.{limitedOf, Limits}
+use Rattle.table.specs.Entries.{Row}
 use Rattle.table.proofs.Limits.{limits-of}
-use Rattle.records.specs.Records.{fitsOf}
-use Rattle.records.specs.Images.{imageBytes}
-use Rattle.records.specs.First.{first}
-use Rattle.records.specs.Stores.{rowIn, imageIn}
-use Rattle.image_put.specs.Pieces.{headBytes, keysBytes, pieceBytes, piecesBytes, endBytes, ImageRoom}
-use Rattle.image_put.proofs.Laws.{head-length, keys-length, piece-length, pieces-none, pieces-more, end-length, image-is}
+use Rattle.image_records.specs.Records.{fitsOf}
+use Rattle.image_records.specs.Images.{imageBytes}
+use Rattle.image_records.specs.First.{first}
+use Rattle.image_records.specs.Stores.{rowIn, imageIn}
+use Rattle.image_put.specs.Pieces.{pieceBytes, piecesBytes, ImageRoom}
+use Rattle.image_put.proofs.Laws.{keys-length, piece-length, pieces-none, pieces-more, rest-length, image-length}
 use Rattle.image_write.specs.Writing.{fitsAt, cellsFit, entryTests, entryFits, runWrong, orElse, wrongOf, lengthOf, fittedOf, judgedOf, writeOf, outBy}
-use Rattle.image_write.specs.Asks.{Cell, Cells, RowAt, EntryRoom, EntriesRoom, StoreRoom, partsSize, Fitting, Sizable, Sizing}
+use Rattle.image_write.specs.Asks.{EntryRoom, EntriesRoom, partsSize, Sizable, Sizing}
 use Rattle.answers.specs.declared.Written.{Written}
 use Rattle.answers.specs.declared.Written.the-variants.{Bytes, Refused}
 
@@ -48,7 +50,7 @@ cell-answered cells p e = e ∙ only (ltb (getD cells p 0) (256 ^ 6))
 
 pub ruleset cell-cases = (cell-answered)
 
-pub cell-asks : (cells : List ℕ) (p to : ℕ) → Cells cells to → p < to → Cell cells p
+pub cell-asks : (cells : List ℕ) (p to : ℕ) → Space cells 0 to → p < to → Space cells p 1
 cell-asks cells p to r h = record { inside = omega arith }
 
 pub ruleset cells-cases = (none-here, none-end, fail-on, cell-asks)
@@ -87,7 +89,7 @@ pub ruleset row-cases = (first-large, base-large, rise-large, run-large, row-ans
 
 -- ---- entry_fits
 
-pub row-asks : (b s : ℕ) (t bs : List ℕ) (i : ℕ) → EntryRoom b s t bs i → RowAt t i
+pub row-asks : (b s : ℕ) (t bs : List ℕ) (i : ℕ) → EntryRoom b s t bs i → Row t s i
 row-asks b s t bs i r = omega (arith, r)
 
 module _ (b s : ℕ) (t bs : List ℕ) (i : ℕ) (r : EntryRoom b s t bs i) where
@@ -98,17 +100,17 @@ module _ (b s : ℕ) (t bs : List ℕ) (i : ℕ) (r : EntryRoom b s t bs i) wher
   next-slot = add-mul i 1 b ∙ rw one-mul
 
   slot-small : i * b < 2 ^ 63
-  slot-small = let h : i ≤ sMost = omega (arith, r .below, r .few) in lt-of-le-of-lt (mul-le-mul h (r .small)) (lit< tt)
+  slot-small = let h : i ≤ sMost = omega (arith, r .below, r .room .few) in lt-of-le-of-lt (mul-le-mul h (r .room .small)) (lit< tt)
 
   pub slot-fits : Fits w64 (i * b)
   slot-fits = record { fits = omega (arith, slot-small) }
 
   module _ {h : ℕ} (few : h ≤ b) where
     pub slots-fit : Fits w64 (i * b + h)
-    slots-fit = record { fits = omega (arith, slot-small, r .small) }
+    slots-fit = record { fits = omega (arith, slot-small, r .room .small) }
 
-    pub cells-asks : Cells bs (i * b + h)
-    cells-asks = record { inside = omega (arith, last-slot, next-slot, r .slots) }
+    pub cells-asks : Space bs 0 (i * b + h)
+    cells-asks = record { inside = omega (arith, last-slot, next-slot, r .room .slots) }
 
 pub at-most : (h b : ℕ) → h < b → h ≤ b
 at-most h b l = omega (arith, l)
@@ -157,7 +159,7 @@ module _ (b s : ℕ) (t bs : List ℕ) (i : ℕ) (so : failsOf (entryFits b t bs
   wrong-end h = sym (fail-end (entryFits b t bs) 0 s i so h)
 
 pub entry-asks : (b s : ℕ) (t bs : List ℕ) (i : ℕ) → EntriesRoom b s t bs → i < s → EntryRoom b s t bs i
-entry-asks b s t bs i r h = record { below = h; few = r .few; rows = r .rows; small = r .small; slots = r .slots }
+entry-asks b s t bs i r h = record { below = h; room = r }
 
 pub ruleset entries-cases = (wrong-here, wrong-end, fail-on, entry-asks)
 
@@ -174,13 +176,14 @@ module _ (n s : ℕ) (keys : List ℕ) {r : Bool} (fits : r ≡ noneOf (failsOf 
 
 pub ruleset run-cases = (run-fits, run-large-key)
 
+module _ (z : Sizes) (keys t bs : List ℕ) (r : Limits (storeOf z keys t bs)) where
+  pub entries-asks : EntriesRoom (z .b) (z .s) t bs
+  entries-asks = omega (arith, r)
+
+  pub run-asks : Space keys 0 (z .n)
+  run-asks = omega (arith, r)
+
 module _ (b n s : ℕ) (keys t bs : List ℕ) where
-  pub entries-asks : StoreRoom b n s keys t bs → EntriesRoom b s t bs
-  entries-asks r = omega (arith, r)
-
-  pub run-asks : StoreRoom b n s keys t bs → Cells keys n
-  run-asks r = record { inside = r .run }
-
   module _ {w : Found} (lowest : w ≡ failsOf (entryFits b t bs) 0 (s - 0)) where
     pub wrong-entry : {i : ℕ} → w ≡ At i → At i ≡ wrongOf b n s keys t bs
     unfolding wrongOf
@@ -192,7 +195,7 @@ module _ (b n s : ℕ) (keys t bs : List ℕ) where
 
 pub ruleset wrong-cases = (entries-asks, run-asks, wrong-entry, wrong-run)
 
--- ---- pieces_size
+-- ---- image_size
 
 parts-none : (t : List ℕ) (i : ℕ) → partsSize t i 0 ≡ 0
 unfolding partsSize
@@ -203,14 +206,14 @@ unfolding partsSize
 parts-more t i zero h = absurd (omega arith)
 parts-more t i (suc left) h = let e : left ≡ suc left - 1 = omega arith in ap (λ (k : ℕ). 18 + 7 * getD t (5 * i + 4) 0 + partsSize t (i + 1) k) e
 
-module _ (b s : ℕ) (t : List ℕ) (from : ℕ) (r : Sizable b s t from) where
+module _ (b n s : ℕ) (t : List ℕ) (r : Sizable b n s t) where
   next-few : (i left : ℕ) → i + left ≡ s → 0 < left → getD t (5 * i + 4) 0 < bMost
   next-few i left c h = let f : getD t (5 * i + 4) 0 < b = r .held i (omega arith) in omega (arith, r .small)
 
-  pub size-start : Sizing b s t from from 0 s
+  pub size-start : Sizing s t (10 + 7 * n) (10 + 7 * n) 0 s
   size-start = record { is = refl; counts = omega arith; bounded = omega arith; next = next-few 0 s (omega arith) }
 
-  module _ (p i left : ℕ) (w : Sizing b s t from p i left) (h : 0 < left) where
+  module _ (p i left : ℕ) (w : Sizing s t (10 + 7 * n) p i left) (h : 0 < left) where
     pub size-read : 5 * i + 4 < length t
     size-read = omega (arith, w .counts, r .rows)
 
@@ -228,9 +231,9 @@ module _ (b s : ℕ) (t : List ℕ) (from : ℕ) (r : Sizable b s t from) where
       size-sum = record { fits = omega (arith, w .next h) }
 
       pub size-more : Fits w64 (p + (18 + 7 * g))
-      size-more = record { fits = omega (arith, w .next h, w .bounded, w .counts, r .few, r .start) }
+      size-more = record { fits = omega (arith, w .next h, w .bounded, w .counts, r .few, r .n-most) }
 
-      pub size-turn : Sizing b s t from (p + (18 + 7 * g)) (i + 1) (left - 1)
+      pub size-turn : Sizing s t (10 + 7 * n) (p + (18 + 7 * g)) (i + 1) (left - 1)
       size-turn =
           record {
             is = omega (arith, w .is, parts-more t i left h);
@@ -239,8 +242,8 @@ module _ (b s : ℕ) (t : List ℕ) (from : ℕ) (r : Sizable b s t from) where
             next = next-few (i + 1) (left - 1) (omega (arith, w .counts));
           }
 
-pub size-end : (b s : ℕ) (t : List ℕ) (from p i left : ℕ) → Sizing b s t from p i left → left ≤ 0 → p ≡ from + partsSize t 0 s
-size-end b s t from p i left w h =
+pub size-end : (s : ℕ) (t : List ℕ) (from p i left : ℕ) → Sizing s t from p i left → left ≤ 0 → p ≡ from + partsSize t 0 s
+size-end s t from p i left w h =
     let e : left ≡ 0 = omega arith in
     let z : partsSize t i left ≡ 0 = ap (partsSize t i) e ∙ parts-none t i in
     omega (arith, w .is)
@@ -248,9 +251,6 @@ size-end b s t from p i left w h =
 pub ruleset size-cases = (size-start, size-read, size-place, size-cell, size-product, size-sum, size-more, size-turn, size-end)
 
 -- ---- fitted
-
-pub size-asks : (b n s : ℕ) (t : List ℕ) → Fitting b n s t → Sizable b s t (10 + 7 * n)
-size-asks b n s t r = record { few = r .few; rows = r .rows; small = r .small; start = omega (arith, r .n-most); held = r .held }
 
 module _ (n s : ℕ) (t : List ℕ) (room : ℕ) {z : ℕ} (sized : z ≡ 10 + 7 * n + partsSize t 0 s) where
   pub fitted-yes : z ≤ room → Bytes z ≡ fittedOf (10 + 7 * n + partsSize t 0 s) room
@@ -261,7 +261,7 @@ module _ (n s : ℕ) (t : List ℕ) (room : ℕ) {z : ℕ} (sized : z ≡ 10 + 7
   unfolding fittedOf
   fitted-no h = rw (← sized) (simp (lt-leb z room h))
 
-pub ruleset fitted-cases = (size-asks, fitted-yes, fitted-no)
+pub ruleset fitted-cases = (fitted-yes, fitted-no)
 
 -- ---- what a store without a wrong place has
 
@@ -305,14 +305,14 @@ module _ (b n s : ℕ) (keys t bs : List ℕ) (room : ℕ) {w : Found} (found : 
   pub judged-right : w ≡ Nothing → {a : Written} → a ≡ fittedOf (10 + 7 * n + partsSize t 0 s) room → a ≡ judgedOf (wrongOf b n s keys t bs) (10 + 7 * n + partsSize t 0 s) room
   judged-right q e = simp (sym found ∙ q) e
 
-pub fitted-asks : (b n s : ℕ) (keys t bs : List ℕ) {w : Found} → w ≡ wrongOf b n s keys t bs → w ≡ Nothing → StoreRoom b n s keys t bs → Fitting b n s t
-fitted-asks b n s keys t bs found q r =
+pub fitted-asks : (z : Sizes) (keys t bs : List ℕ) {w : Found} → w ≡ wrongOf (z .b) (z .n) (z .s) keys t bs → w ≡ Nothing → Limits (storeOf z keys t bs) → Sizable (z .b) (z .n) (z .s) t
+fitted-asks z keys t bs found q r =
     record {
-      few = r .few;
-      rows = r .rows;
-      small = r .small;
+      few = r .s-most;
+      rows = r .table-holds;
+      small = r .b-most;
       n-most = r .n-most;
-      held = λ j h. entry-held b t bs j (right-of b n s keys t bs (sym found ∙ q) .entries j h);
+      held = λ j h. entry-held (z .b) t bs j (right-of (z .b) (z .n) (z .s) keys t bs (sym found ∙ q) .entries j h);
     }
 
 pub ruleset judged-cases = (judged-wrong, judged-right, fitted-asks)
@@ -327,29 +327,23 @@ pieces-length b t bs i (suc count) =
     ap length (pieces-more b t bs i count) ∙ length-append (pieceBytes b t bs i) (piecesBytes b t bs (i + 1) count) ∙
     omega (arith, piece-length [] 0 b t bs i, k, pieces-length b t bs (i + 1) count)
 
-pub length-is : (e b n s : ℕ) (keys t bs : List ℕ) → lengthOf (storeOf e b n s keys t bs) ≡ 10 + 7 * n + partsSize t 0 s
+pub length-is : (σ : Store) → lengthOf σ ≡ 10 + 7 * σ .n + partsSize (σ .table) 0 (σ .s)
 unfolding lengthOf
-length-is e b n s keys t bs =
-    let a : _ = length-append (headBytes e b n s) (keysBytes 2 keys 0 n ++ (piecesBytes b t bs 0 s ++ endBytes)) in
-    let c : _ = length-append (keysBytes 2 keys 0 n) (piecesBytes b t bs 0 s ++ endBytes) in
-    let d : _ = length-append (piecesBytes b t bs 0 s) endBytes in
-    ap length (image-is [] e b n s keys t bs) ∙ omega (arith, a, c, d, head-length e b n s, keys-length 2 keys 0 n, pieces-length b t bs 0 s, end-length)
+length-is σ = image-length σ ∙ omega (arith, rest-length (σ .b) (σ .table) (σ .buffers) (σ .s), pieces-length (σ .b) (σ .table) (σ .buffers) 0 (σ .s))
 
 -- ---- decide
 
-module _ (e b n s : ℕ) (keys t bs : List ℕ) (room : ℕ) {c : Bool} (limited : c ≡ limitedOf (storeOf e b n s keys t bs)) where
-  pub limits-refused : c ≡ false → Refused OutOfLimits ≡ writeOf (storeOf e b n s keys t bs) room
+module _ (σ : Store) (room : ℕ) {c : Bool} (limited : c ≡ limitedOf σ) where
+  pub limits-refused : c ≡ false → Refused OutOfLimits ≡ writeOf σ room
   unfolding writeOf
   limits-refused q = simp (sym limited ∙ q)
 
-  pub decided : c ≡ true → {a : Written} → a ≡ judgedOf (wrongOf b n s keys t bs) (10 + 7 * n + partsSize t 0 s) room → a ≡ writeOf (storeOf e b n s keys t bs) room
+  pub decided : c ≡ true → {a : Written} → a ≡ judgedOf (wrongOf (σ .b) (σ .n) (σ .s) (σ .keys) (σ .table) (σ .buffers)) (10 + 7 * σ .n + partsSize (σ .table) 0 (σ .s)) room
+      → a ≡ writeOf σ room
   unfolding writeOf
-  decided q g = simp (sym limited ∙ q) (g ∙ ap (λ (z : ℕ). judgedOf (wrongOf b n s keys t bs) z room) (sym (length-is e b n s keys t bs)))
+  decided q g = simp (sym limited ∙ q) (g ∙ ap (λ (z : ℕ). judgedOf (wrongOf (σ .b) (σ .n) (σ .s) (σ .keys) (σ .table) (σ .buffers)) z room) (sym (length-is σ)))
 
-pub judged-asks : (e b n s : ℕ) (keys t bs : List ℕ) {c : Bool} → c ≡ limitedOf (storeOf e b n s keys t bs) → c ≡ true → StoreRoom b n s keys t bs
-judged-asks e b n s keys t bs limited q = let l : Limits (storeOf e b n s keys t bs) = limits-of (storeOf e b n s keys t bs) limited q in omega (arith, l)
-
-pub ruleset decide-cases = (limits-refused, decided, judged-asks)
+pub ruleset decide-cases = (limits-refused, decided, limits-of)
 
 -- ---- write_image
 
@@ -389,20 +383,20 @@ image-long : (σ : Store) → lengthOf σ ≡ length (imageBytes first (imageIn 
 unfolding lengthOf
 image-long σ = refl
 
-module _ (e b n s : ℕ) (keys t bs out : List ℕ) {a : Written} (answer : a ≡ writeOf (storeOf e b n s keys t bs) (length out)) where
-  pub write-answered : {x : Written} → a ≡ x → x ≡ writeOf (storeOf e b n s keys t bs) (length out)
+module _ (σ : Store) (out : List ℕ) {a : Written} (answer : a ≡ writeOf σ (length out)) where
+  pub write-answered : {x : Written} → a ≡ x → x ≡ writeOf σ (length out)
   write-answered q = sym q ∙ answer
 
-  pub put-asks : {z : ℕ} → a ≡ Bytes z → ImageRoom out (storeOf e b n s keys t bs)
+  pub put-asks : {z : ℕ} → a ≡ Bytes z → ImageRoom out σ
   put-asks {z} q =
-      let w : Told (storeOf e b n s keys t bs) (length out) z = written-told (storeOf e b n s keys t bs) (length out) z (sym answer ∙ q) in
+      let w : Told σ (length out) z = written-told σ (length out) z (sym answer ∙ q) in
       record {
-        space = omega (arith, image-long (storeOf e b n s keys t bs), w .space);
+        space = omega (arith, image-long σ, w .space);
         limits = w .limits;
         slots = λ j h.
-            let f : getD t (5 * j + 4) 0 < b = entry-held b t bs j (w .right .entries j h) in
-            let m : (j + 1) * b ≤ s * b = mul-le-mul-right b (omega arith) in
-            let k : (j + 1) * b ≡ j * b + b = add-mul j 1 b ∙ rw one-mul in
+            let f : getD (σ .table) (5 * j + 4) 0 < σ .b = entry-held (σ .b) (σ .table) (σ .buffers) j (w .right .entries j h) in
+            let m : (j + 1) * σ .b ≤ σ .s * σ .b = mul-le-mul-right (σ .b) (omega arith) in
+            let k : (j + 1) * σ .b ≡ j * σ .b + σ .b = add-mul j 1 (σ .b) ∙ rw one-mul in
             omega (arith, w .limits .buffers-hold);
       }
 

@@ -12,10 +12,10 @@ use Rattle.scan.specs.declared.Found.the-variants.{At, Nothing}
 use Rattle.scan.specs.Scan.{failsOf, noneOf}
 use Rattle.table.specs.Store.{Store}
 use Rattle.table.specs.Limits.{limitedOf}
-use Rattle.records.specs.Records.{fitsOf}
-use Rattle.records.specs.Images.{imageBytes}
-use Rattle.records.specs.First.{first}
-use Rattle.records.specs.Stores.{rowIn, imageIn}
+use Rattle.image_records.specs.Records.{fitsOf}
+use Rattle.image_records.specs.Images.{imageBytes}
+use Rattle.image_records.specs.First.{first}
+use Rattle.image_records.specs.Stores.{rowIn, imageIn}
 use Rattle.answers.specs.declared.Written.{Written}
 use Rattle.answers.specs.declared.Written.the-variants.{Bytes, Refused}
 

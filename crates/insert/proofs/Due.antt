@@ -1,155 +1,180 @@
--- What an answer says that is not a refusal: all that the writing of it asks. And the cases of the call.
+-- What a decision says that is no refusal: all that the writing of it asks. And the cases of the call.
 -- Assumes nothing.
 use mathlib.Core.Path.{_≡_, refl, sym, ap, _∙_}
+use mathlib.Core.Bool.{true}
 use mathlib.Core.List.{List}
 use Prim.Native.Nat.{ℕ, suc, _+_, _-_, _*_, _≤_, _<_}
-use native.Mathlib.Nat.{mul-le-mul}
 use native.Mathlib.Omega.{arith}
+use mir.Syntax.{w64}
+use mir.Val.{Fits}
 use lib.Dec.{ltb, leb}
-use lib.ListN.{getD, set}
-use borrow.Author.Tests.{leb-true, ltb-true, ltb-false}
-use Rattle.lists.specs.Rising.{upOf, Up}
-use Rattle.lists.proofs.Tests.{pick-cases}
-use Rattle.lists.proofs.Rising.{up-true}
-use Rattle.terms.specs.Limits.{keyLimit, keyOf}
-use Rattle.table.specs.Store.{Store, storeOf}
+use lib.ListN.{getD}
+use borrow.Author.Tests.{leb-true, ltb-true, le-leb, lt-ltb}
+use Rattle.lists.proofs.Tests.{pick-cases, both-true, true-both}
+use Rattle.terms.specs.Limits.{keyOf}
+use Rattle.terms.specs.Keys.{isKey, IsKey}
+use Rattle.terms.specs.declared.Entry.{Entry}
+use Rattle.terms.specs.declared.Sizes.{Sizes}
+use Rattle.terms.specs.declared.Refusal.{Refusal}
+use Rattle.table.specs.Store.{Store, storeOf, sizesIn, inUse}
 use Rattle.table.specs.Limits.{Limits, limitedOf, keyRoom, segmentRoom}
-use Rattle.table.specs.Entries.{entryOf, entryIn, usedIn}
-use Rattle.table.specs.Damaged.{Sound, damagedOf}
-use Rattle.table.specs.Chosen.{chosenOf}
-use Rattle.table.proofs.Limits.{limited-true}
-use Rattle.table.proofs.Damages.{damaged-false}
-use Rattle.table.proofs.Chosen.{chosen-below}
+use Rattle.table.specs.Entries.{entryOf, entryIn, runOf, usedOf}
+use Rattle.table.specs.Damaged.{Sound}
+use Rattle.table.proofs.Limits.{limited-true, slots-fit}
+use Rattle.choose.specs.declared.Picked.{Picked}
+use Rattle.choose.specs.declared.Picked.the-variants.{Sound as SoundAt, Wrong}
+use Rattle.choose.specs.Picked.{pickedIn, Told as Picks}
+use Rattle.choose.proofs.Laws.{told}
+use Rattle.segment.proofs.Laws.{slot-inside, lent}
 use Rattle.scan.specs.declared.Found.{Found}
 use Rattle.scan.specs.declared.Found.the-variants.{At, Nothing}
-use Rattle.scan.specs.Scan.{failsOf}
-use Rattle.answers.specs.declared.Looked.{Looked}
-use Rattle.answers.specs.declared.Looked.the-variants.{InRun, InBuffer, Absent, Refused as NotLooked}
-use Rattle.lookup.specs.Lookup.{searchedOf}
-use Rattle.lookup.proofs.Laws.{slot-inside}
-use Rattle.answers.specs.declared.Inserted.{Inserted}
+use Rattle.scan.specs.Scan.{noneOf}
+use Rattle.scan.proofs.Meaning.{passes}
+use Rattle.insert_decide.specs.declared.Weighed.{Weighed}
+use Rattle.insert_decide.specs.declared.Weighed.the-variants.{Disordered, There, Slot, Pieces}
+use Rattle.insert_decide.specs.Weighed.{weighedOf, Parted, Told}
+use Rattle.insert_decide.proofs.Told.{weighed-told}
+use Rattle.insert_write.specs.Merged.{Passes}
+use Rattle.insert_write.specs.Write.{Holding, Mergeable}
+use Rattle.insert_decide.specs.declared.Decided.{Decided}
+use Rattle.insert_decide.specs.declared.Decided.the-variants.{Put, Merge, Refuse}
+use Rattle.insert_decide.specs.Decided.{passesOf, laterOf, roomedOf, roomFor, laterFor, mergeFor, weighedFor, soundFor, pickedFor, decidedOf}
 use Rattle.answers.specs.declared.Inserted.the-variants.{Buffered, Merged, Refused}
-use Rattle.joining.specs.Merged.{mergedWith, piecesOf, laterOk}
-use Rattle.insert.specs.Insert.{roomFor, laterFor, mergeFor, placedFor, unlessFound, segmentFor, insertOf}
-use Rattle.insert.specs.Cells.{keysBy, tableBy, buffersBy}
-use Rattle.joining.specs.Cells.{putSlots}
-use Rattle.joining.specs.Write.{Holding, Holdable, Mergeable}
+use Rattle.insert.specs.Insert.{insertOf}
 
-abbrev pub Due : Store → ℕ → Inserted → Type 0
-Due σ k (Buffered i j) = Holdable σ i j k
-Due σ k (Merged i t n s) = Mergeable σ i t k
-Due σ k (Refused r) = Unit
+-- ---- a later entry: the test and what it says
 
-module _ (σ : Store) (k i : ℕ) (limits : Limits σ) (inside : i < σ .s) (sound : Sound (σ .b) (σ .n) (entryIn σ i)) where
-  due-room : σ .b ≤ entryIn σ i .held + 1 → Up 0 keyLimit (mergedWith σ i k) → failsOf (laterOk σ) (suc i) (σ .s - suc i) ≡ Nothing → Due σ k (roomFor σ i k)
-  unfolding roomFor
-  due-room full rising later =
-      pick-cases (Due σ k) (leb (σ .n + σ .b) (keyRoom (σ .keys))) _ _
-      (λ u. pick-cases (Due σ k) (leb (σ .s - 1 + piecesOf σ i k) (segmentRoom (σ .b) (σ .table) (σ .buffers))) _ _
-      (λ v. record {
-        limits = limits;
-        inside = inside;
-        sound = sound;
-        full = full;
-        rising = rising;
-        later = later;
-        key-room = leb-true _ _ u;
-        segment-room = leb-true _ _ v;
-        pieces = refl;
-      })
-      (λ v. tt))
-      (λ u. tt)
+module _ (σ : Store) (j : ℕ) where
+  pub passes-true : passesOf (σ .b) (σ .n) (σ .table) j ≡ true → Passes σ j
+  unfolding passesOf entryOf
+  passes-true h =
+      let t : _ = both-true (leb (getD (σ .table) (5 * j + 1) 0) (σ .n)) (ltb (getD (σ .table) (5 * j + 4) 0) (σ .b)) h in
+      record { base = leb-true _ _ (t .0); held = ltb-true _ _ (t .1) }
 
-  due-merge : σ .b ≤ entryIn σ i .held + 1 → Due σ k (mergeFor σ i k)
-  unfolding mergeFor
-  due-merge full =
-      pick-cases (Due σ k) (upOf 0 keyLimit (mergedWith σ i k)) _ _ (λ u. go (up-true 0 keyLimit (mergedWith σ i k) u) (failsOf (laterOk σ) (suc i) (σ .s - suc i)) refl) (λ u. tt)
+  pub true-passes : Passes σ j → passesOf (σ .b) (σ .n) (σ .table) j ≡ true
+  unfolding passesOf entryOf
+  true-passes w = true-both (leb (getD (σ .table) (5 * j + 1) 0) (σ .n)) (ltb (getD (σ .table) (5 * j + 4) 0) (σ .b)) (le-leb _ _ (w .base)) (lt-ltb _ _ (w .held))
+
+pub all-pass : (σ : Store) (i : ℕ) → laterOf (σ .b) (σ .n) (σ .s) (σ .table) i ≡ Nothing → (j : ℕ) → i < j → j < σ .s → Passes σ j
+unfolding laterOf
+all-pass σ i none j above below =
+    passes-true σ j (passes (passesOf (σ .b) (σ .n) (σ .table)) (suc i) (σ .s - suc i) (ap noneOf none) j above (omega arith))
+
+-- ---- what was decided
+
+abbrev pub Due : Store → ℕ → Decided → Type 0
+Due σ k (Put i x slot) = Holding (sizesIn σ) (σ .table) (σ .buffers) i x slot k
+Due σ k (Merge i x t) = Mergeable σ i x t k
+Due σ k (Refuse r) = Unit
+
+module _ (σ : Store) (k i : ℕ) (x : Entry) (limits : Limits σ) (small : IsKey k) (inside : i < σ .s) (entry : x ≡ entryIn σ i) (sound : Sound (σ .b) (σ .n) x) where
+  abbrev run : List ℕ
+  run = runOf (σ .keys) x
+
+  abbrev used : List ℕ
+  used = usedOf (σ .b) (σ .buffers) i (x .held)
+
+  due-merge : (t : ℕ) → Parted (inUse σ) (σ .b) x run used (keyOf k) t → Due σ k (mergeFor σ i x t)
+  unfolding mergeFor roomFor roomedOf
+  due-merge t parted = go (laterOf (σ .b) (σ .n) (σ .s) (σ .table) i) refl
     where
-      go : Up 0 keyLimit (mergedWith σ i k) → (f : Found) → failsOf (laterOk σ) (suc i) (σ .s - suc i) ≡ f → Due σ k (laterFor f (roomFor σ i k))
-      go up (At j) q = tt
-      go up Nothing q = due-room full up q
+      go : (f : Found) → laterOf (σ .b) (σ .n) (σ .s) (σ .table) i ≡ f → Due σ k (laterFor f (roomFor σ i x t))
+      go (At j) q = tt
+      go Nothing q =
+          pick-cases (Due σ k) (leb (σ .n + σ .b) (keyRoom (σ .keys))) _ _
+          (λ u. pick-cases (Due σ k) (leb (σ .s - 1 + t) (segmentRoom (σ .b) (σ .table) (σ .buffers))) _ _
+          (λ v. record {
+            limits = limits;
+            inside = inside;
+            entry = entry;
+            sound = sound;
+            full = parted .full;
+            rising = parted .rising;
+            pieces = parted .pieces;
+            later = all-pass σ i q;
+            key-room = leb-true _ _ u;
+            segment-room = leb-true _ _ v;
+          })
+          (λ v. tt))
+          (λ u. tt)
 
-  due-placed : Due σ k (placedFor σ i k)
-  unfolding placedFor
-  due-placed =
-      pick-cases (Due σ k) (ltb (entryIn σ i .held + 1) (σ .b)) _ _
-      (λ u. record { limits = limits; inside = inside; sound = sound; free = ltb-true _ _ u; place = refl })
-      (λ u. due-merge (ltb-false _ _ u))
+  due-weighed : (a : Weighed) → Told (inUse σ) (σ .b) x run used (keyOf k) a → Due σ k (weighedFor σ i x a)
+  due-weighed Disordered w = tt
+  due-weighed There w = tt
+  due-weighed (Slot p) w =
+      let slots : i * σ .b + (x .held + 1) ≤ σ .s * σ .b = slot-inside (σ .b) inside (w .free) in
+      record {
+        entry = entry;
+        row = omega (arith, limits, inside);
+        few = omega (arith, limits, sound);
+        room = omega (arith, limits, slots);
+        small = omega (arith, slots, slots-fit (limits .s-most) (limits .b-most));
+        place = w .place;
+      }
+  due-weighed (Pieces t) w = due-merge t w
 
-due-segment : (σ : Store) (k i : ℕ) → Limits σ → i < σ .s → Due σ k (segmentFor σ i k)
-unfolding segmentFor
-due-segment σ k i limits inside =
-    pick-cases (Due σ k) (damagedOf (σ .b) (σ .n) (entryIn σ i)) _ _ (λ u. tt)
-    (λ u. pick-cases (Due σ k) (upOf 0 keyLimit (usedIn σ i)) _ _
-    (λ v. go (damaged-false (σ .b) (σ .n) (entryIn σ i) u) (searchedOf (σ .e) (σ .b) (σ .keys) (σ .buffers) (entryIn σ i) i (keyOf k)))
-    (λ v. tt))
-  where
-    go : Sound (σ .b) (σ .n) (entryIn σ i) → (l : Looked) → Due σ k (unlessFound l (placedFor σ i k))
-    go sound (InRun p) = tt
-    go sound (InBuffer i j) = tt
-    go sound Absent = due-placed σ k i limits inside sound
-    go sound (NotLooked r) = tt
+  due-sound : Due σ k (soundFor σ i x (keyOf k))
+  unfolding soundFor
+  due-sound =
+      due-weighed (weighedOf (inUse σ) (σ .b) x run used (keyOf k))
+      (weighed-told (inUse σ) (σ .b) x run used (keyOf k)
+      (record {
+        lent = lent (sizesIn σ) (σ .keys) (σ .table) (σ .buffers) limits i x inside sound refl refl;
+        key-small = small;
+        e-most = omega (arith, limits .e-most);
+        b-most = limits .b-most;
+        held-below = sound .held-below;
+      }))
 
-pub due : (σ : Store) (k : ℕ) → Due σ k (insertOf σ k)
-unfolding insertOf
+due-picked : (σ : Store) (k : ℕ) → Limits σ → IsKey k → (g : Picked) → Picks (sizesIn σ) (σ .table) k g → Due σ k (pickedFor σ k g)
+due-picked σ k limits small (SoundAt i x) p = due-sound σ k i x limits small (p .inside) (p .entry) (p .sound)
+due-picked σ k limits small (Wrong i) p = tt
+
+pub due : (σ : Store) (k : ℕ) → Due σ k (decidedOf σ k)
+unfolding decidedOf
 due σ k =
     pick-cases (Due σ k) (limitedOf σ) _ _
-    (λ u. pick-cases (Due σ k) (ltb k keyLimit) _ _
-    (λ v.
-    let l : Limits σ = limited-true σ u in
-    due-segment σ k (chosenOf (σ .table) (σ .s) k) l (chosen-below (σ .table) k (σ .s) (l .s-least)))
+    (λ u. pick-cases (Due σ k) (isKey k) _ _
+    (λ v. let l : Limits σ = limited-true σ u in due-picked σ k l (ltb-true _ _ v) (pickedIn σ k) (told (sizesIn σ) (σ .table) k (l .s-least)))
     (λ v. tt))
     (λ u. tt)
 
--- ---- what was decided, carried out
+-- ---- the cases of the call
 
-module _ (e b n s : ℕ) (keys table buffers : List ℕ) (k : ℕ) {a : Inserted} (decided : a ≡ insertOf (storeOf e b n s keys table buffers) k) where
+module _ (z : Sizes) (keys table buffers : List ℕ) (k : ℕ) {d : Decided} (decided : d ≡ decidedOf (storeOf z keys table buffers) k) where
   abbrev σ : Store
-  σ = storeOf e b n s keys table buffers
+  σ = storeOf z keys table buffers
 
-  says : (v : Inserted) → a ≡ v → Due σ k v
+  says : (v : Decided) → d ≡ v → Due σ k v
   says v q = rw (sym decided ∙ q) at (due σ k)
 
-  pub hold-asks : {i j : ℕ} → a ≡ Buffered i j → Holding b table buffers i j k
-  unfolding entryOf
-  hold-asks {i} {j} q =
-      let w : Holdable σ i j k = says (Buffered i j) q in
-      let slots : i * b + entryIn σ i .held < s * b = omega (arith, slot-inside b (w .inside) (w .free)) in
-      let all : s * b ≤ 524288 = mul-le-mul (w .limits .s-most) (w .limits .b-most) in
-      record {
-        row = omega (arith, w .limits, w .inside);
-        few = omega (arith, w .limits, w .free);
-        room = omega (arith, w .limits, slots);
-        small = omega (arith, slots, all);
-        place = w .place;
-      }
+  module _ {i : ℕ} {x : Entry} {j : ℕ} (q : d ≡ Put i x j) where
+    pub hold-asks : Holding z table buffers i x j k
+    hold-asks = says (Put i x j) q
 
-  pub join-asks : {i t m g : ℕ} → a ≡ Merged i t m g → Mergeable (storeOf e b n s keys table buffers) i t k
-  join-asks {i} {t} {m} {g} q = says (Merged i t m g) q
+    pub put-answered : Buffered i j ≡ insertOf (storeOf z keys table buffers) k
+    unfolding insertOf
+    put-answered = cc
 
--- what is held is the entry's
-module _ (b n s : ℕ) (table buffers : List ℕ) (i k : ℕ) where
-  pub insert-held : {T : List ℕ} → T ≡ set table (5 * i + 4) (getD table (5 * i + 4) 0 + 1) → T ≡ set table (5 * i + 4) (entryOf n s table i .held + 1)
-  unfolding entryOf
-  insert-held is = is
+  module _ {i : ℕ} {x : Entry} {t : ℕ} (q : d ≡ Merge i x t) where
+    pub join-asks : Mergeable (storeOf z keys table buffers) i x t k
+    join-asks = says (Merge i x t) q
 
-  pub insert-put : {S : List ℕ} → S ≡ putSlots (i * b) (getD table (5 * i + 4) 0) k buffers → S ≡ putSlots (i * b) (entryOf n s table i .held) k buffers
-  unfolding entryOf
-  insert-put is = is
+    pub n-fits : Fits w64 (z .n + z .b)
+    n-fits = record { fits = omega (arith, join-asks .limits) }
 
--- what is left by an answer is what is left by the case that it is
-module _ (σ : Store) (k : ℕ) {a v : Inserted} (is : a ≡ v) {l : List ℕ} where
-  pub keys-by : l ≡ keysBy v σ k → l ≡ keysBy a σ k
-  keys-by left = left ∙ ap (λ (a : Inserted). keysBy a σ k) (sym is)
+    pub s-some : 1 ≤ z .s
+    s-some = join-asks .limits .s-least
 
-  pub table-by : l ≡ tableBy v σ k → l ≡ tableBy a σ k
-  table-by left = left ∙ ap (λ (a : Inserted). tableBy a σ k) (sym is)
+    pub s-fits : Fits w64 (z .s - 1 + t)
+    s-fits = record { fits = omega (arith, join-asks .segment-room) }
 
-  pub slots-by : l ≡ buffersBy v σ k → l ≡ buffersBy a σ k
-  slots-by left = left ∙ ap (λ (a : Inserted). buffersBy a σ k) (sym is)
+    pub merge-answered : Merged i t (z .n + z .b) (z .s - 1 + t) ≡ insertOf (storeOf z keys table buffers) k
+    unfolding insertOf
+    merge-answered = cc
 
-pub ruleset table-cases = (table-by, insert-held)
+  pub refuse-answered : {r : Refusal} → d ≡ Refuse r → Refused r ≡ insertOf (storeOf z keys table buffers) k
+  unfolding insertOf
+  refuse-answered q = cc
 
-pub ruleset slots-cases = (slots-by, insert-put)
-
-pub ruleset carry-cases = (hold-asks, join-asks)
+pub ruleset insert-cases = (hold-asks, put-answered, join-asks, n-fits, s-some, s-fits, merge-answered, refuse-answered)

@@ -2,9 +2,10 @@
 use mathlib.Core.List.{List}
 use Prim.Native.Nat.{ℕ, _+_, _*_}
 use lib.ListN.{set}
+use Rattle.terms.specs.Limits.{sizesOf}
 use Rattle.table.specs.Store.{Store, storeOf}
 use Rattle.table.specs.Entries.{entryIn}
-use Rattle.joining.specs.Cells.{putSlots, mergedKeys, mergedTable, mergedSlots}
+use Rattle.insert_write.specs.Cells.{putSlots, mergedKeys, mergedTable, mergedSlots}
 use Rattle.answers.specs.declared.Inserted.{Inserted}
 use Rattle.answers.specs.declared.Inserted.the-variants.{Buffered, Merged, Refused}
 
@@ -37,4 +38,4 @@ sBy (Merged i t n s) σ = s
 sBy (Refused r) σ = σ .s
 
 abbrev pub storeBy : Inserted → Store → ℕ → Store
-storeBy a σ k = storeOf (σ .e) (σ .b) (nBy a σ) (sBy a σ) (keysBy a σ k) (tableBy a σ k) (buffersBy a σ k)
+storeBy a σ k = storeOf (sizesOf (σ .e) (σ .b) (nBy a σ) (sBy a σ)) (keysBy a σ k) (tableBy a σ k) (buffersBy a σ k)

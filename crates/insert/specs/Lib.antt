@@ -1,3 +1,2 @@
 pub mod Insert
 pub mod Cells
-pub mod Decide

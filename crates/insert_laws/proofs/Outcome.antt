@@ -26,11 +26,11 @@ module _ (κs : Lfts 3) (a : _) (r r′ : Inserted) (x x′ : _) (p : insert.Pos
   pub one-answer : r ≡ r′
   one-answer = p .0 ∙ sym (q .0)
 
-  pub one-keys : now (x .1 .1 .1 .1 .0) ≡ now (x′ .1 .1 .1 .1 .0)
+  pub one-keys : now (x .1 .0) ≡ now (x′ .1 .0)
   one-keys = rw one-answer at (p .1 .0) ∙ sym (q .1 .0)
 
-  pub one-table : now (x .1 .1 .1 .1 .1 .0) ≡ now (x′ .1 .1 .1 .1 .1 .0)
+  pub one-table : now (x .1 .1 .0) ≡ now (x′ .1 .1 .0)
   one-table = rw one-answer at (p .1 .1 .0) ∙ sym (q .1 .1 .0)
 
-  pub one-buffers : now (x .1 .1 .1 .1 .1 .1 .0) ≡ now (x′ .1 .1 .1 .1 .1 .1 .0)
+  pub one-buffers : now (x .1 .1 .1 .0) ≡ now (x′ .1 .1 .1 .0)
   one-buffers = rw one-answer at (p .1 .1 .1) ∙ sym (q .1 .1 .1)

@@ -4,25 +4,25 @@ use mathlib.Core.Path.{_≡_, refl, sym, ap, _∙_}
 use mathlib.Core.Bool.{Bool, true, false}
 use mathlib.Core.List.{List, [], _∷_}
 use mathlib.Core.Logic.{⊎-elim}
-use Prim.Native.Nat.{ℕ, suc, _+_, _-_, _*_, _^_, _≤_, _<_}
-use native.Mathlib.Nat.{mul-le-mul-right, sub-zero, add-zero, add-sub-cancel-left}
+use Prim.Native.Nat.{ℕ, suc, _+_, _-_, _*_, _≤_, _<_}
+use native.Mathlib.Nat.{sub-zero, add-zero}
 use native.Mathlib.Omega.{arith}
-use mir.Syntax.{w64}
-use mir.Val.{Fits}
 use lib.Dec.{ltb, leb, eqb}
-use lib.ListN.{length, getD, take, drop, length-take, length-drop}
-use borrow.Author.Tests.{lt-ltb, le-ltb, ltb-true, le-leb, lt-leb, eq-eqb, ne-eqb}
+use lib.ListN.{length, getD, drop}
+use borrow.Author.Tests.{lt-ltb, le-ltb, ltb-true, le-leb, lt-leb, eq-eqb, ne-eqb, not-true}
 use Rattle.lists.specs.Tests.{pick, both, imp}
 use Rattle.lists.proofs.Tests.{both-true}
-use Rattle.terms.specs.Limits.{keyLimit, keyOf}
+use Rattle.terms.specs.Limits.{keyOf, inUseOf}
+use Rattle.terms.specs.Keys.{isKey, IsKey}
 use Rattle.terms.specs.declared.Entry.{Entry}
+use Rattle.terms.specs.declared.Sizes.{Sizes}
 use Rattle.terms.specs.declared.Refusal.the-variants.{Limits as OutOfLimits, StoreWrong}
 use Rattle.table.specs.Store.{Store, storeOf}
 use Rattle.table.specs.Limits.{limitedOf}
 use Rattle.table.specs.Entries.{Row, entryOf, entryIn, runOf, usedOf}
 use Rattle.table.specs.Damaged.{Sound, damagedOf}
-use Rattle.table.proofs.Limits.{limits-of, slots-fit}
-use Rattle.table.proofs.Damages.{sound-of}
+use Rattle.table.proofs.Limits.{limits-of}
+use Rattle.table.proofs.Damages.{sound-of, damaged-false}
 use Rattle.line.specs.declared.Span.{Span}
 use Rattle.line.specs.Line.{Lined, windowOf}
 use Rattle.scan.specs.Scan.{failsOf}
@@ -31,29 +31,16 @@ use Rattle.order.specs.declared.Cursor.{Cursor}
 use Rattle.order.specs.declared.Next.{Next}
 use Rattle.order.specs.declared.Next.the-variants.{Key, Done}
 use Rattle.order.specs.Order.{pairStart, restOf, nextOf}
-use Rattle.order.proofs.Rest.{FromRun, FromRest, Over, next-step, next-over, next-key}
-use Rattle.judge.specs.declared.Bound.{Bound}
-use Rattle.judge.specs.declared.Bound.the-variants.{Free, By}
+use Rattle.order.proofs.Rest.{FromRun, FromRest, Over, next-step, next-over, next-key, next-inside}
+use Rattle.order.specs.declared.Bound.{Bound}
+use Rattle.order.specs.declared.Bound.the-variants.{Free, By}
+use Rattle.order.specs.Bound.{aboveOf, underOf}
+use Rattle.segment.specs.Lent.{Segment, Lent}
+use Rattle.segment.proofs.Laws.{run-held, used-held, lent}
 use Rattle.answers.specs.declared.Checked.the-variants.{Good, Refused}
-use Rattle.judge.specs.Check.{aboveOf, underOf, ceilingOf, betweenOf, runKeyOf, usedKeyOf, keptOf, rulesOf, checkOf, Drawn, Placed, Parts, Lent, Segment, Going}
+use Rattle.judge.specs.Check.{ceilingOf, betweenOf, runKeyOf, usedKeyOf, keptOf, entryRules, rulesOf, checkOf, Placed, Going}
 
--- ---- above, under, not_before, starts, ceiling
-pub above-free : (k : ℕ) {b : Bound} → b ≡ Free → true ≡ aboveOf b k
-above-free k e = rw e refl
-
-pub above-by : (k : ℕ) {b : Bound} {l : ℕ} → b ≡ By l → ltb l k ≡ aboveOf b k
-above-by k e = rw e refl
-
-pub ruleset above-cases = (above-free, above-by)
-
-pub under-free : (k : ℕ) {b : Bound} → b ≡ Free → true ≡ underOf b k
-under-free k e = rw e refl
-
-pub under-by : (k : ℕ) {b : Bound} {l : ℕ} → b ≡ By l → ltb k l ≡ underOf b k
-under-by k e = rw e refl
-
-pub ruleset under-cases = (under-free, under-by)
-
+-- ---- not_before, starts, ceiling
 pub before-none : (i f k : ℕ) → i ≡ 0 → true ≡ imp (ltb 0 i) (leb f k)
 before-none i f k h = simp (le-ltb 0 i (omega arith))
 
@@ -79,7 +66,7 @@ ceiling-last s t i h = simp (le-ltb _ _ h)
 pub ruleset ceiling-cases = (ceiling-next, ceiling-last)
 
 -- ---- between
-module _ (next before : Bound) (k : ℕ) {a : Bool} (key : a ≡ ltb k keyLimit) where
+module _ (next before : Bound) (k : ℕ) {a : Bool} (key : a ≡ isKey k) where
   pub between-large : a ≡ false → false ≡ betweenOf next before k
   unfolding betweenOf
   between-large h = simp (sym key ∙ h)
@@ -97,9 +84,9 @@ pub ruleset between-cases = (between-large, between-not-above, between-last)
 
 -- ---- run_key, used_key, key_ok
 module _ (next before : Bound) (k : ℕ) {a : Bool} (is : a ≡ betweenOf next before k) where
-  pub run-window-asks : (x : Entry) → Drawn x → a ≡ true → Lined x (keyOf k)
+  pub run-window-asks : (x : Entry) (at : ℕ) → Placed x at → a ≡ true → Lined x (keyOf k)
   unfolding betweenOf
-  run-window-asks x d h = let small : k < keyLimit = ltb-true _ _ (both-true _ _ (sym is ∙ h) .0) in omega (arith, d, small)
+  run-window-asks x at d h = let small : IsKey k = ltb-true _ _ (both-true _ _ (sym is ∙ h) .0) in omega (arith, d, small)
 
   module _ (e : ℕ) (x : Entry) (p : ℕ) where
     pub run-not-between : a ≡ false → false ≡ runKeyOf e x next before k p
@@ -134,13 +121,7 @@ key-of-run a b at past h is = simp (lt-ltb _ _ h) is
 pub key-of-slots : (a b : Bool) (at past : ℕ) {r : Bool} → past ≤ at → r ≡ b → r ≡ pick (ltb at past) a b
 key-of-slots a b at past h is = simp (le-ltb _ _ h) is
 
-pub key-place : (x : Entry) (at : ℕ) → Placed x at → Fits w64 (x .base .0 + at)
-key-place x at w = record { fits = omega arith }
-
-pub key-drawn : (x : Entry) (at : ℕ) → Placed x at → Drawn x
-key-drawn x at w = w .drawn
-
-pub ruleset key-cases = (key-of-run, key-of-slots, key-place, key-drawn)
+pub ruleset key-cases = (key-of-run, key-of-slots)
 
 -- ---- kept: a walk over the merged order
 
@@ -187,15 +168,6 @@ module _ (e : ℕ) (x : Entry) (i : ℕ) (next : Bound) (run used : List ℕ) (b
   turn : nextOf m run used 0 ≡ Key k past → Turn e x i next run used before m k past
   turn h = ⊎-elim turn-run turn-rest (next-step m run used 0 k past h)
 
-  -- the place in the run stays inside it
-  inside-run : FromRun m run used 0 k past → past .i ≤ length run
-  inside-run w =
-      let l : length run - m .i ≡ suc (length run - past .i) = sym (length-drop (m .i) run) ∙ ap length (w .heads) ∙ ap suc (length-drop (past .i) run) in
-      omega (arith, w .next)
-
-  inside-next : m .i ≤ length run → nextOf m run used 0 ≡ Key k past → past .i ≤ length run
-  inside-next h q = ⊎-elim inside-run (λ w. omega (arith, w .same-run)) (next-step m run used 0 k past q)
-
   alone-next : nextOf m run used 0 ≡ Key k past → past .took ≡ true
   alone-next q = ⊎-elim (λ w. w .same-key ∙ alone) (λ w. w .key-taken alone) (next-step m run used 0 k past q)
 
@@ -203,8 +175,8 @@ pub kept-start : (e : ℕ) (x : Entry) (i : ℕ) (next : Bound) (run used : List
 kept-start e x i next run used q = rw q (record { alone = refl; inside = omega arith; so-far = rw (add-zero (x .base .0)) refl })
 
 module _ (e : ℕ) (x : Entry) (i : ℕ) (next : Bound) (run used : List ℕ) (before : Bound) (m : Cursor) (so : Going e x i next run used before m) where
-  pub kept-asks : Parts x run → Placed x (m .i)
-  kept-asks w = record { drawn = w .drawn; few = omega (arith, w .few, so .inside) }
+  pub kept-asks : Lent x run used → Placed x (m .i)
+  kept-asks w = omega (arith, w, so .inside)
 
   module _ {n : Next} (is : n ≡ nextOf m run used 0) where
     pub kept-end : n ≡ Done → true ≡ keptOf e x i next Free (x .base .0) run used
@@ -228,98 +200,76 @@ module _ (e : ℕ) (x : Entry) (i : ℕ) (next : Bound) (run used : List ℕ) (b
         kept-on q =
             record {
               alone = alone-next e x i next run used before m k past (so .alone) (sym is ∙ key);
-              inside = inside-next e x i next run used before m k past (so .alone) (so .inside) (sym is ∙ key);
+              inside = next-inside m run used 0 k past (sym is ∙ key) (so .inside);
               so-far = so .so-far ∙ turned ∙ rw (sym tested ∙ q) refl;
             }
 
 pub ruleset kept-cases = (kept-start, kept-asks, kept-end, kept-less, kept-bad, kept-on)
 
--- ---- kept_at: the parts that are lent on
-module _ (b : ℕ) (keys buffers : List ℕ) (x : Entry) (i : ℕ) where
-  pub parts-asks : Lent b keys buffers x i → Parts x (take (x .end .0 - x .base .0) (drop (x .base .0) keys))
-  parts-asks w = record { drawn = w .drawn; few = rw (length-take (x .end .0 - x .base .0) (drop (x .base .0) keys)) (omega (arith, w .end-most)) }
+-- ---- entry_ok
+module _ (b n : ℕ) (keys : List ℕ) (x : Entry) (i : ℕ) {g : Bool} (test : g ≡ damagedOf b n x) where
+  pub entry-damaged : g ≡ true → false ≡ entryRules b n keys x i
+  unfolding entryRules
+  entry-damaged h = rw (sym test ∙ h) refl
 
-  pub parts-are : (e : ℕ) (next : Bound) {r : Bool} →
-      r ≡ keptOf e x i next Free (x .base .0) (take (x .end .0 - x .base .0) (drop (x .base .0) keys)) (take (i * b + x .held - i * b) (drop (i * b) buffers)) →
-      r ≡ keptOf e x i next Free (x .base .0) (runOf keys x) (usedOf b buffers i (x .held))
-  parts-are e next is = rw (add-sub-cancel-left (i * b) (x .held)) at is
+  module _ (fine : g ≡ false) where
+    pub entry-base : n ≤ length keys → x .base .0 < length keys
+    entry-base h = omega (arith, sound-of b n x test fine)
 
-pub ruleset parts-cases = (parts-asks, parts-are)
+    module _ {u : Bool} (start : u ≡ imp (eqb i 0) (eqb (x .base .0) 0)) where
+      pub entry-starts : u ≡ false → false ≡ entryRules b n keys x i
+      unfolding entryRules
+      entry-starts h = rw (sym test ∙ fine, sym start ∙ h) refl
+
+      pub entry-first : u ≡ true → eqb (getD keys (x .base .0) 0) (x .first .0) ≡ entryRules b n keys x i
+      unfolding entryRules
+      entry-first h = rw (sym test ∙ fine, sym start ∙ h) refl
+
+pub ruleset entry-cases = (entry-damaged, entry-base, entry-starts, entry-first)
 
 -- ---- segment_ok
-module _ (e b n s : ℕ) (keys table buffers : List ℕ) (i : ℕ) where
-  abbrev σ : Store
-  σ = storeOf e b n s keys table buffers
+pub entry-sound : (b n : ℕ) (keys : List ℕ) (x : Entry) (i : ℕ) {g : Bool} → g ≡ entryRules b n keys x i → g ≡ true → Sound b n x
+unfolding entryRules
+entry-sound b n keys x i test h = damaged-false b n x (not-true _ (both-true _ _ (sym test ∙ h) .0))
 
-  pub segment-row : Segment σ i → Row table s i
+module _ (z : Sizes) (keys table buffers : List ℕ) (i : ℕ) where
+  abbrev σ : Store
+  σ = storeOf z keys table buffers
+
+  pub segment-row : Segment σ i → Row table (z .s) i
   segment-row w = omega arith
 
-  module _ (x : Entry) {g : Bool} (w : Segment σ i) (good : g ≡ damagedOf b n x) (fine : g ≡ false) where
-    sound : Sound b n x
-    sound = sound-of b n x good fine
-
-    pub segment-base : x .base .0 < length keys
-    segment-base = omega (arith, w, sound)
-
-    pub segment-index : Fits w64 (x .base .0 * 8)
-    segment-index = record { fits = omega (arith, w, sound) }
-
-    pub segment-lent : Lent b keys buffers x i
-    segment-lent =
-        let slots : suc i * b ≤ s * b = mul-le-mul-right b (w .inside) in
-        let few : s * b < 2 ^ 64 = slots-fit (w .limits .s-most) (w .limits .b-most) in
-        omega (arith, w, sound, slots, few)
-
-  module _ {x : Entry} (entry : x ≡ entryOf n s table i) {g : Bool} (good : g ≡ damagedOf b n x) where
-    pub segment-damaged : g ≡ true → false ≡ rulesOf σ i
+  module _ {x : Entry} (entry : x ≡ entryOf (z .n) (z .s) table i) {g : Bool} (test : g ≡ entryRules (z .b) (z .n) keys x i) where
+    pub segment-entry : g ≡ false → false ≡ rulesOf σ i
     unfolding rulesOf
-    segment-damaged h = let d : damagedOf b n (entryIn σ i) ≡ true = cc in simp d
+    segment-entry h = let d : entryRules (z .b) (z .n) keys (entryIn σ i) i ≡ false = cc in rw d refl
 
-    module _ (fine : g ≡ false) {u : Bool} (start : u ≡ imp (eqb i 0) (eqb (x .base .0) 0)) where
-      pub segment-starts : u ≡ false → false ≡ rulesOf σ i
-      unfolding rulesOf
-      segment-starts h =
-          let d : damagedOf b n (entryIn σ i) ≡ false = cc in
-          let t : imp (eqb i 0) (eqb (entryIn σ i .base .0) 0) ≡ false = cc in
-          simp (d, t)
+    pub segment-last : {e : ℕ} {c : Bound} {run used : List ℕ} {r : Bool} → g ≡ true → c ≡ ceilingOf (z .s) table i → run ≡ runOf keys x →
+        used ≡ usedOf (z .b) buffers i (x .held) → e ≡ inUseOf z → r ≡ keptOf e x i c Free (x .base .0) run used → r ≡ rulesOf σ i
+    unfolding rulesOf
+    segment-last h ceiling p q o is =
+        let d : entryRules (z .b) (z .n) keys (entryIn σ i) i ≡ true = cc in
+        rw d (rw (p, q, o, entry, ceiling) at is)
 
-      module _ (begun : u ≡ true) where
-        pub segment-first : (getD keys (x .base .0) 0 ≡ x .first .0 → ⊥) → false ≡ rulesOf σ i
-        unfolding rulesOf
-        segment-first h =
-            let d : damagedOf b n (entryIn σ i) ≡ false = cc in
-            let t : imp (eqb i 0) (eqb (entryIn σ i .base .0) 0) ≡ true = cc in
-            let f : eqb (getD keys (entryIn σ i .base .0) 0) (entryIn σ i .first .0) ≡ false = ne-eqb _ _ (rw entry at h) in
-            simp (d, t, f)
-
-        pub segment-last : {c : Bound} {r : Bool} → getD keys (x .base .0) 0 ≡ x .first .0 → c ≡ ceilingOf s table i →
-            r ≡ keptOf e x i c Free (x .base .0) (runOf keys x) (usedOf b buffers i (x .held)) → r ≡ rulesOf σ i
-        unfolding rulesOf
-        segment-last h ceiling is =
-            let d : damagedOf b n (entryIn σ i) ≡ false = cc in
-            let t : imp (eqb i 0) (eqb (entryIn σ i .base .0) 0) ≡ true = cc in
-            let f : eqb (getD keys (entryIn σ i .base .0) 0) (entryIn σ i .first .0) ≡ true = eq-eqb _ _ (rw entry at h) in
-            simp (d, t, f) (rw (entry, ceiling) at is)
-
-pub ruleset segment-cases = (segment-row, segment-base, segment-index, segment-lent, segment-damaged, segment-starts, segment-first, segment-last)
+pub ruleset segment-cases = (segment-row, entry-sound, run-held, used-held, lent, segment-entry, segment-last)
 
 -- ---- check
-module _ (e b n s : ℕ) (keys table buffers : List ℕ) {l : Bool} (limited : l ≡ limitedOf (storeOf e b n s keys table buffers)) where
-  pub check-limits : l ≡ false → Refused OutOfLimits ≡ checkOf (storeOf e b n s keys table buffers)
+module _ (z : Sizes) (keys table buffers : List ℕ) {l : Bool} (limited : l ≡ limitedOf (storeOf z keys table buffers)) where
+  pub check-limits : l ≡ false → Refused OutOfLimits ≡ checkOf (storeOf z keys table buffers)
   unfolding checkOf
   check-limits h = cc
 
   module _ (fine : l ≡ true) (i : ℕ) where
-    pub check-asks : i < s → Segment (storeOf e b n s keys table buffers) i
+    pub check-asks : i < z .s → Segment (storeOf z keys table buffers) i
     check-asks h = record { limits = limits-of _ limited fine; inside = h }
 
-    module _ (so-far : failsOf (rulesOf (storeOf e b n s keys table buffers)) 0 (s - 0) ≡ failsOf (rulesOf (storeOf e b n s keys table buffers)) i (s - i)) where
-      pub check-bad : {r : Bool} → i < s → r ≡ rulesOf (storeOf e b n s keys table buffers) i → r ≡ false → Refused (StoreWrong i) ≡ checkOf (storeOf e b n s keys table buffers)
+    module _ (so-far : failsOf (rulesOf (storeOf z keys table buffers)) 0 (z .s - 0) ≡ failsOf (rulesOf (storeOf z keys table buffers)) i (z .s - i)) where
+      pub check-bad : {r : Bool} → i < z .s → r ≡ rulesOf (storeOf z keys table buffers) i → r ≡ false → Refused (StoreWrong i) ≡ checkOf (storeOf z keys table buffers)
       unfolding checkOf
-      check-bad h p q = cc (sub-zero s, fail-here (rulesOf (storeOf e b n s keys table buffers)) 0 s i so-far h p q)
+      check-bad h p q = cc (sub-zero (z .s), fail-here (rulesOf (storeOf z keys table buffers)) 0 (z .s) i so-far h p q)
 
-      pub check-good : s ≤ i → Good ≡ checkOf (storeOf e b n s keys table buffers)
+      pub check-good : z .s ≤ i → Good ≡ checkOf (storeOf z keys table buffers)
       unfolding checkOf
-      check-good h = cc (sub-zero s, fail-end (rulesOf (storeOf e b n s keys table buffers)) 0 s i so-far h)
+      check-good h = cc (sub-zero (z .s), fail-end (rulesOf (storeOf z keys table buffers)) 0 (z .s) i so-far h)
 
 pub ruleset check-cases = (check-limits, check-asks, check-bad, check-good, fail-on)

@@ -2,15 +2,16 @@
 use mathlib.Core.Path.{_≡_}
 use mathlib.Core.Bool.{Bool, true, not}
 use mathlib.Core.List.{List, [], _∷_}
-use Prim.Native.Nat.{ℕ, _+_, _*_, _^_, _≤_, _<_}
+use Prim.Native.Nat.{ℕ, _+_, _*_, _≤_, _<_}
 use lib.Dec.{ltb, leb, eqb}
 use lib.ListN.{length, getD, drop}
 use Rattle.lists.specs.Tests.{pick, both, imp}
-use Rattle.terms.specs.Limits.{keyLimit, riseMost, nMost, keyOf}
+use Rattle.terms.specs.Limits.{riseMost, nMost, keyOf}
+use Rattle.terms.specs.Keys.{isKey}
 use Rattle.terms.specs.declared.Entry.{Entry}
 use Rattle.terms.specs.declared.Refusal.the-variants.{Limits as OutOfLimits, StoreWrong}
-use Rattle.table.specs.Store.{Store}
-use Rattle.table.specs.Limits.{Limits, limitedOf}
+use Rattle.table.specs.Store.{Store, inUse}
+use Rattle.table.specs.Limits.{limitedOf}
 use Rattle.table.specs.Entries.{entryIn, runIn, usedIn}
 use Rattle.table.specs.Damaged.{damagedOf}
 use Rattle.line.specs.Line.{windowOf}
@@ -18,19 +19,11 @@ use Rattle.scan.specs.declared.Found.{Found}
 use Rattle.scan.specs.declared.Found.the-variants.{At, Nothing}
 use Rattle.scan.specs.Scan.{failsOf}
 use Rattle.order.specs.declared.Cursor.{Cursor}
-use Rattle.judge.specs.declared.Bound.{Bound}
-use Rattle.judge.specs.declared.Bound.the-variants.{Free, By}
+use Rattle.order.specs.declared.Bound.{Bound}
+use Rattle.order.specs.declared.Bound.the-variants.{Free, By}
+use Rattle.order.specs.Bound.{aboveOf, underOf}
 use Rattle.answers.specs.declared.Checked.{Checked}
 use Rattle.answers.specs.declared.Checked.the-variants.{Good, Refused}
-
--- above the key before it, if there is one; below the next segment's first key, if there is one
-abbrev pub aboveOf : Bound → ℕ → Bool
-aboveOf Free k = true
-aboveOf (By l) k = ltb l k
-
-abbrev pub underOf : Bound → ℕ → Bool
-underOf Free k = true
-underOf (By l) k = ltb k l
 
 -- what no key of segment i may reach
 abbrev pub ceilingOf : ℕ → List ℕ → ℕ → Bound
@@ -38,7 +31,7 @@ ceilingOf s t i = pick (ltb (i + 1) s) (By (getD t (5 * (i + 1)) 0)) Free
 
 -- a key of the merged order, after `before` and with the next segment at `next`
 unfoldable pub betweenOf : Bound → Bound → ℕ → Bool
-betweenOf next before k = both (ltb k keyLimit) (both (aboveOf before k) (underOf next k))
+betweenOf next before k = both (isKey k) (both (aboveOf before k) (underOf next k))
 
 -- one of the run, at position p: it lies in its own window
 unfoldable pub runKeyOf : ℕ → Entry → Bound → Bound → ℕ → ℕ → Bool
@@ -58,13 +51,16 @@ keptOf e x i next before p (k ∷ ks) (y ∷ ys) =
     pick (leb k y) (both (runKeyOf e x next before k p) (keptOf e x i next (By k) (p + 1) ks (y ∷ ys)))
     (both (usedKeyOf x i next before y) (keptOf e x i next (By y) p (k ∷ ks) ys))
 
+-- "the entry is not damaged; segment 0 has base 0; the first key equals the key at base"
+unfoldable pub entryRules : ℕ → ℕ → List ℕ → Entry → ℕ → Bool
+entryRules b n keys x i =
+    both (not (damagedOf b n x)) (both (imp (eqb i 0) (eqb (x .base .0) 0)) (eqb (getD keys (x .base .0) 0) (x .first .0)))
+
 -- every rule of segment i
 unfoldable pub rulesOf : Store → ℕ → Bool
 rulesOf σ i =
-    both (not (damagedOf (σ .b) (σ .n) (entryIn σ i)))
-    (both (imp (eqb i 0) (eqb (entryIn σ i .base .0) 0))
-    (both (eqb (getD (σ .keys) (entryIn σ i .base .0) 0) (entryIn σ i .first .0))
-    (keptOf (σ .e) (entryIn σ i) i (ceilingOf (σ .s) (σ .table) i) Free (entryIn σ i .base .0) (runIn σ i) (usedIn σ i))))
+    both (entryRules (σ .b) (σ .n) (σ .keys) (entryIn σ i) i)
+    (keptOf (inUse σ) (entryIn σ i) i (ceilingOf (σ .s) (σ .table) i) Free (entryIn σ i .base .0) (runIn σ i) (usedIn σ i))
 
 -- "the lowest segment that breaks a rule"
 abbrev pub judged : Found → Checked
@@ -77,35 +73,12 @@ checkOf σ = pick (limitedOf σ) (judged (failsOf (rulesOf σ) 0 (σ .s))) (Refu
 
 -- ---- what the functions ask
 
--- the line's numbers are small
-pub record Drawn (x : Entry) : Type 0 where
+-- the numbers of the line and of the place `at` in the run are small
+pub record Placed (x : Entry) (at : ℕ) : Type 0 where
   pub rise-most : x .rise ≤ riseMost
   pub run-some : 0 < x .run
   pub base-most : x .base .0 ≤ nMost
-
--- and so is the place in the run
-pub record Placed (x : Entry) (at : ℕ) : Type 0 where
-  pub drawn : Drawn x
   pub few : at ≤ nMost
-
--- and the whole run
-pub record Parts (x : Entry) (run : List ℕ) : Type 0 where
-  pub drawn : Drawn x
-  pub few : length run ≤ nMost
-
--- the run and the used slots stand in the slices
-pub record Lent (b : ℕ) (keys buffers : List ℕ) (x : Entry) (i : ℕ) : Type 0 where
-  pub drawn : Drawn x
-  pub some : x .base .0 < x .end .0
-  pub end-most : x .end .0 ≤ nMost
-  pub run-held : x .end .0 ≤ length keys
-  pub used-held : i * b + x .held ≤ length buffers
-  pub used-few : i * b + x .held < 2 ^ 64
-
--- the limits hold, and i is a segment
-pub record Segment (σ : Store) (i : ℕ) : Type 0 where
-  pub limits : Limits σ
-  pub inside : i < σ .s
 
 -- the walk has come to m, past a key that bounds the next: what is left decides
 pub record Going (e : ℕ) (x : Entry) (i : ℕ) (next : Bound) (run used : List ℕ) (before : Bound) (m : Cursor) : Type 0 where

@@ -2,9 +2,10 @@
 use mathlib.Core.Path.{_≡_}
 use Prim.Native.Nat.{ℕ, _+_, _≤_, _<_}
 use lib.ListN.{getD}
-use Rattle.lists.specs.Rising.{Up, In}
-use Rattle.terms.specs.Limits.{keyLimit, keyOf}
-use Rattle.table.specs.Store.{Store}
+use Rattle.lists.specs.Rising.{In}
+use Rattle.terms.specs.Limits.{keyOf}
+use Rattle.terms.specs.Keys.{RisingKeys}
+use Rattle.table.specs.Store.{Store, inUse}
 use Rattle.table.specs.Limits.{Limits}
 use Rattle.table.specs.Entries.{entryIn, runIn, usedIn}
 use Rattle.table.specs.Damaged.{Sound}
@@ -19,14 +20,14 @@ pub record Rules (σ : Store) (i : ℕ) : Type 0 where
   -- "the first key equals the key at base"
   pub first : getD (σ .keys) (entryIn σ i .base .0) 0 ≡ entryIn σ i .first .0
   -- "run and used buffer merged are strictly rising and below 2^44"
-  pub rising : Up 0 keyLimit (mergedIn σ i)
+  pub rising : RisingKeys (mergedIn σ i)
   -- "in a segment after 0 no used key is below the first key"
   pub not-before : 0 < i → (k : ℕ) → In k (usedIn σ i) → entryIn σ i .first .0 ≤ k
   -- "no key of the run and no used key reaches the next segment's first key"
   pub run-apart : i + 1 < σ .s → (k : ℕ) → In k (runIn σ i) → k < entryIn σ (i + 1) .first .0
   pub used-apart : i + 1 < σ .s → (k : ℕ) → In k (usedIn σ i) → k < entryIn σ (i + 1) .first .0
   -- "each key of the run lies in its own window"
-  pub windows : (p : ℕ) → entryIn σ i .base .0 ≤ p → p < entryIn σ i .end .0 → Near (σ .e) (entryIn σ i) (keyOf (getD (σ .keys) p 0)) p
+  pub windows : (p : ℕ) → entryIn σ i .base .0 ≤ p → p < entryIn σ i .end .0 → Near (inUse σ) (entryIn σ i) (keyOf (getD (σ .keys) p 0)) p
 
 -- a store that the check accepts
 pub record Accepted (σ : Store) : Type 0 where

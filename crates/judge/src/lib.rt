@@ -1,64 +1,43 @@
 // The check: whether a store keeps every rule, and the lowest segment that breaks one.
 use answers::Checked;
+use order::Bound;
 use order::Cursor;
 use order::Next;
 use terms::Entry;
 use terms::Key;
 use terms::Refusal;
+use terms::Sizes;
 ghost use mathlib.Core.Path.{_≡_};
 ghost use mathlib.Core.Bool.{Bool};
-ghost use Prim.Native.Nat.{_+_};
+ghost use Prim.Native.Nat.{_+_, _≤_};
 ghost use lib.Dec.{ltb, leb, eqb};
+ghost use lib.ListN.{length};
 ghost use Rattle.lists.specs.Tests.{pick, imp};
 ghost use Rattle.table.specs.Store.{storeOf};
-ghost use Rattle.table.specs.Entries.{Row, runOf, usedOf};
-ghost use Rattle.judge.specs.declared.Bound.the-variants.{Free};
-ghost use Rattle.judge.specs.Check.{Drawn, Placed, Parts, Lent, Segment, aboveOf, underOf, ceilingOf, betweenOf, runKeyOf, usedKeyOf, keptOf, rulesOf, checkOf};
-
-// A key that bounds others, or none: with no key past the greatest to stand for none, keys may fill a word.
-pub enum Bound {
-    Free,
-    By(u64),
-}
-
-// Whether a key is above the one before it.
-pub fn above(before: Bound, k: u64) -> bool
-    ensures { λ (r : Bool). ⌜ r ≡ aboveOf before k ⌝ }
-{
-    match before {
-        Bound::Free => true,
-        Bound::By(l) => l < k,
-    }
-}
-
-// Whether a key is below the next segment's first key.
-fn under(next: Bound, k: u64) -> bool
-    ensures { λ (r : Bool). ⌜ r ≡ underOf next k ⌝ }
-{
-    match next {
-        Bound::Free => true,
-        Bound::By(l) => k < l,
-    }
-}
+ghost use Rattle.table.specs.Entries.{Row};
+ghost use Rattle.order.specs.declared.Bound.the-variants.{Free};
+ghost use Rattle.segment.specs.Lent.{Segment, Lent};
+ghost use Rattle.judge.specs.Check.{Placed, ceilingOf, betweenOf, runKeyOf, usedKeyOf, keptOf, entryRules, rulesOf, checkOf};
 
 // Whether a key of the merged order is a key, above the one before it and below the next first key.
 fn between(next: Bound, before: Bound, k: u64) -> bool
     ensures { λ (r : Bool). ⌜ r ≡ betweenOf next before k ⌝ }
 {
     if terms::is_key(k) {
-        if above(before, k) {
-            return under(next, k);
+        if order::above(before, k) {
+            return order::under(next, k);
         }
         return false;
     }
     false
 }
 
-// A key of the run, at position p.
-fn run_key(e: usize, x: Entry, next: Bound, before: Bound, k: u64, p: usize) -> bool
-    requires { ⌜ Drawn x ⌝ }
-    ensures { λ (r : Bool). ⌜ r ≡ runKeyOf e x next before k p ⌝ }
+// A key of the run, at the place `at` in it.
+fn run_key(e: usize, x: Entry, next: Bound, before: Bound, k: u64, at: usize) -> bool
+    requires { ⌜ Placed x at ⌝ }
+    ensures { λ (r : Bool). ⌜ r ≡ runKeyOf e x next before k (x .base .0 + at) ⌝ }
 {
+    let p = x.base.0 + at;
     if between(next, before, k) {
         let w = line::window(x, Key(k), e);
         if p < w.from.0 {
@@ -104,14 +83,14 @@ fn key_ok(
     ensures { λ (r : Bool). ⌜ r ≡ pick (ltb at past) (runKeyOf e x next before k (x .base .0 + at)) (usedKeyOf x i next before k) ⌝ }
 {
     if at < past {
-        return run_key(e, x, next, before, k, x.base.0 + at);
+        return run_key(e, x, next, before, k, at);
     }
     used_key(x, i, next, before, k)
 }
 
 // Each key of segment i, in merged order: one pass over its run and its used slots, where they lie.
 fn kept(e: usize, x: Entry, i: usize, next: Bound, run: &[u64], used: &[u64]) -> bool
-    requires { ⌜ Parts x (now run) ⌝ }
+    requires { ⌜ Lent x (now run) (now used) ⌝ }
     ensures { λ (r : Bool). ⌜ r ≡ keptOf e x i next Free (x .base .0) (now (run .entry)) (now (used .entry)) ⌝ }
 {
     let mut m = Cursor::pair();
@@ -132,26 +111,6 @@ fn kept(e: usize, x: Entry, i: usize, next: Bound, run: &[u64], used: &[u64]) ->
             }
         }
     }
-}
-
-// The same with the whole slices: the run and the used slots are lent on as parts.
-fn kept_at(
-    e: usize,
-    b: usize,
-    keys: &[u64],
-    buffers: &[u64],
-    x: Entry,
-    i: usize,
-    next: Bound,
-) -> bool
-    requires { ⌜ Lent b (now keys) (now buffers) x i ⌝ }
-    ensures { λ (r : Bool). ⌜ r ≡ keptOf e x i next Free (x .base .0) (runOf (now (keys .entry)) x) (usedOf b (now (buffers .entry)) i (x .held)) ⌝ }
-{
-    let base = x.base.0;
-    let end = x.end.0;
-    let at = i * b;
-    let to = at + x.held;
-    kept(e, x, i, next, &keys[base..end], &buffers[at..to])
 }
 
 // What no key of segment i may reach.
@@ -175,51 +134,44 @@ fn starts(i: usize, base: usize) -> bool
     true
 }
 
-// Whether segment i keeps every rule.
-fn segment_ok(
-    e: usize,
-    b: usize,
-    n: usize,
-    s: usize,
-    keys: &[u64],
-    table: &[u64],
-    buffers: &[u64],
-    i: usize,
-) -> bool
-    requires { ⌜ Segment (storeOf e b n s (now keys) (now table) (now buffers)) i ⌝ }
-    ensures { λ (r : Bool). ⌜ r ≡ rulesOf (storeOf e b n s (now (keys .entry)) (now (table .entry)) (now (buffers .entry))) i ⌝ }
+// The entry of segment i: not damaged, at base 0 for segment 0, and its first key is the key at base.
+fn entry_ok(z: Sizes, keys: &[u64], x: Entry, i: usize) -> bool
+    requires { ⌜ z .n ≤ length (now keys) ⌝ }
+    ensures { λ (r : Bool). ⌜ r ≡ entryRules (z .b) (z .n) (now (keys .entry)) x i ⌝ }
 {
-    let x = table::entry_at(table, n, s, i);
-    if table::damaged(x, b, n) {
+    if table::damaged(z, x) {
         return false;
     }
     if starts(i, x.base.0) {
         let base = x.base.0;
-        if keys[base] == x.first.0 {
-            let next = ceiling(table, s, i);
-            return kept_at(e, b, keys, buffers, x, i, next);
-        }
-        return false;
+        return keys[base] == x.first.0;
+    }
+    false
+}
+
+// Whether segment i keeps every rule.
+fn segment_ok(z: Sizes, keys: &[u64], table: &[u64], buffers: &[u64], i: usize) -> bool
+    requires { ⌜ Segment (storeOf z (now keys) (now table) (now buffers)) i ⌝ }
+    ensures { λ (r : Bool). ⌜ r ≡ rulesOf (storeOf z (now (keys .entry)) (now (table .entry)) (now (buffers .entry))) i ⌝ }
+{
+    let x = table::entry_at(z, table, i);
+    if entry_ok(z, keys, x, i) {
+        let next = ceiling(table, z.s, i);
+        let run = segment::run_of(keys, x);
+        let used = segment::used_of(z, buffers, i, x);
+        return kept(terms::in_use(z), x, i, next, run, used);
     }
     false
 }
 
 // Whether a store keeps every rule; the lowest segment that breaks one. Refusals in this order: 1, 9.
-pub fn check(
-    e: usize,
-    b: usize,
-    n: usize,
-    s: usize,
-    keys: &[u64],
-    table: &[u64],
-    buffers: &[u64],
-) -> Checked
-    ensures { λ r. ⌜ r ≡ checkOf (storeOf e b n s (now (keys .entry)) (now (table .entry)) (now (buffers .entry))) ⌝ }
+pub fn check(z: Sizes, keys: &[u64], table: &[u64], buffers: &[u64]) -> Checked
+    ensures { λ r. ⌜ r ≡ checkOf (storeOf z (now (keys .entry)) (now (table .entry)) (now (buffers .entry))) ⌝ }
 {
-    if table::limited(e, b, n, s, keys, table, buffers) {
+    if table::limited(z, keys, table, buffers) {
         let mut i = 0;
-        while i < s {
-            if segment_ok(e, b, n, s, keys, table, buffers, i) {
+        while i < z.s {
+            if segment_ok(z, keys, table, buffers, i) {
                 i += 1;
             } else {
                 return Checked::Refused(Refusal::StoreWrong(i));

@@ -9,10 +9,10 @@ use borrow.Author.Tests.{leb-true, leb-false, ltb-true, ltb-false, lt-ltb, le-lt
 use Rattle.lists.specs.Rising.{In}
 use Rattle.lists.proofs.Tests.{either}
 use Rattle.terms.specs.Limits.{keyOf}
-use Rattle.table.specs.Store.{Store}
+use Rattle.table.specs.Store.{Store, inUse}
 use Rattle.table.specs.Entries.{entryOf, entryIn}
 use Rattle.table.specs.Reads.{reads}
-use Rattle.table.proofs.Chosen.{one-choice}
+use Rattle.choose.proofs.Chosen.{one-choice}
 use Rattle.line.specs.Meaning.{Near}
 use Rattle.judge.specs.Rules.{Accepted}
 use Rattle.judge_laws.specs.Covered.{One, InRun, InSegment, EndToEnd}
@@ -81,5 +81,5 @@ module _ (σ : Store) (ok : Accepted σ) where
       record { which = w .segment; has = here; alone = λ z v. one-choice (σ .table) k (σ .s) z (w .segment) (holder-chosen σ ok k z v) (holder-chosen σ ok k (w .segment) here) }
 
   -- Each read in a run lies within e of its guess.
-  pub read-near : (p i : ℕ) → InRun σ p i → Near (σ .e) (entryIn σ i) (keyOf (getD (σ .keys) p 0)) p
+  pub read-near : (p i : ℕ) → InRun σ p i → Near (inUse σ) (entryIn σ i) (keyOf (getD (σ .keys) p 0)) p
   read-near p i w = ok .rules i (w .segment) .windows p (w .from-base) (w .before-end)

@@ -10,38 +10,28 @@ use native.Mathlib.Omega.{arith}
 use lib.Dec.{leb}
 use lib.ListN.{length, getD}
 use borrow.Author.Tests.{lt-ltb, ltb-true, leb-true, leb-false, le-leb}
-use Rattle.lists.specs.Rising.{Up, In}
+use Rattle.lists.specs.Rising.{In}
 use Rattle.lists.specs.Merge.{merge}
 use Rattle.lists.proofs.Tests.{either, both-true, true-both, imp-true, true-imp}
 use Rattle.lists.proofs.Lists.{nil-cons, same-head}
 use Rattle.lists.proofs.Merging.{merge-nil, merge-first, merge-second}
-use Rattle.terms.specs.Limits.{keyLimit, keyOf}
+use Rattle.terms.specs.Limits.{keyOf}
+use Rattle.terms.specs.Keys.{IsKey, RisingFrom}
 use Rattle.terms.specs.declared.Entry.{Entry}
 use Rattle.line.specs.Line.{windowOf}
 use Rattle.line.specs.Meaning.{Near, Within}
 use Rattle.line.proofs.Meaning.{near-within, within-near}
-use Rattle.judge.specs.declared.Bound.{Bound}
-use Rattle.judge.specs.declared.Bound.the-variants.{Free, By}
-use Rattle.judge.specs.Check.{aboveOf, underOf, betweenOf, runKeyOf, usedKeyOf, keptOf}
+use Rattle.order.specs.declared.Bound.{Bound}
+use Rattle.order.specs.declared.Bound.the-variants.{Free, By}
+use Rattle.order.specs.Bound.{floorOf, underOf}
+use Rattle.judge.specs.Check.{betweenOf, runKeyOf, usedKeyOf, keptOf}
 use Rattle.judge.proofs.Laws.{kept-none, kept-run, kept-used}
 
 -- ---- the bounds
 
-abbrev pub floorAt : Bound → ℕ
-floorAt Free = 0
-floorAt (By l) = suc l
-
 abbrev pub Under : Bound → ℕ → Type 0
 Under Free k = Unit
 Under (By l) k = k < l
-
-above-true : (b : Bound) (k : ℕ) → aboveOf b k ≡ true → floorAt b ≤ k
-above-true Free k h = omega arith
-above-true (By l) k h = ltb-true l k h
-
-true-above : (b : Bound) (k : ℕ) → floorAt b ≤ k → aboveOf b k ≡ true
-true-above Free k h = refl
-true-above (By l) k h = lt-ltb l k h
 
 under-true : (b : Bound) (k : ℕ) → underOf b k ≡ true → Under b k
 under-true Free k h = tt
@@ -54,8 +44,8 @@ true-under (By l) k h = lt-ltb k l h
 -- ---- one key
 
 record Between (next before : Bound) (k : ℕ) : Type 0 where
-  pub small : k < keyLimit
-  pub above : floorAt before ≤ k
+  pub small : IsKey k
+  pub above : floorOf before ≤ k
   pub under : Under next k
 
 module _ (next before : Bound) (k : ℕ) where
@@ -64,11 +54,11 @@ module _ (next before : Bound) (k : ℕ) where
   between-true h =
       let t : _ = both-true _ _ h in
       let u : _ = both-true _ _ (t .1) in
-      record { small = ltb-true _ _ (t .0); above = above-true before k (u .0); under = under-true next k (u .1) }
+      record { small = ltb-true _ _ (t .0); above = leb-true _ _ (u .0); under = under-true next k (u .1) }
 
   true-between : Between next before k → betweenOf next before k ≡ true
   unfolding betweenOf
-  true-between w = true-both _ _ (lt-ltb _ _ (w .small)) (true-both _ _ (true-above before k (w .above)) (true-under next k (w .under)))
+  true-between w = true-both _ _ (lt-ltb _ _ (w .small)) (true-both _ _ (le-leb _ _ (w .above)) (true-under next k (w .under)))
 
   module _ (e : ℕ) (x : Entry) (p : ℕ) where
     run-true : runKeyOf e x next before k p ≡ true → Between next before k × Near e x (keyOf k) p
@@ -98,7 +88,7 @@ module _ (next before : Bound) (k : ℕ) where
 -- ---- a run and used slots
 
 pub record Kept (e : ℕ) (x : Entry) (i : ℕ) (next before : Bound) (p : ℕ) (ks ys : List ℕ) : Type 0 where
-  pub rising : Up (floorAt before) keyLimit (merge ks ys)
+  pub rising : RisingFrom (floorOf before) (merge ks ys)
   pub run-under : (k : ℕ) → In k ks → Under next k
   pub used-under : (k : ℕ) → In k ys → Under next k
   pub not-before : 0 < i → (k : ℕ) → In k ys → x .first .0 ≤ k
@@ -123,7 +113,7 @@ module _ (e : ℕ) (x : Entry) (i : ℕ) (next : Bound) where
 
     cons-run : Kept e x i next before p (k ∷ ks) ys → (Between next before k × Near e x (keyOf k) p) × Kept e x i next (By k) (p + 1) ks ys
     cons-run w =
-        let u : Up (floorAt before) keyLimit (k ∷ merge ks ys) = rw front at (w .rising) in
+        let u : RisingFrom (floorOf before) (k ∷ merge ks ys) = rw front at (w .rising) in
         let n : Near e x (keyOf k) (p + 0) = w .windows 0 (omega arith) in (
           (record { above = u .0; small = u .1 .0; under = w .run-under k (inl refl) }, rw (add-zero p) at n),
           record {
@@ -149,7 +139,7 @@ module _ (e : ℕ) (x : Entry) (i : ℕ) (next : Bound) where
 
     cons-used : Kept e x i next before p ks (y ∷ ys) → (Between next before y × (0 < i → x .first .0 ≤ y)) × Kept e x i next (By y) p ks ys
     cons-used w =
-        let u : Up (floorAt before) keyLimit (y ∷ merge ks ys) = rw front at (w .rising) in (
+        let u : RisingFrom (floorOf before) (y ∷ merge ks ys) = rw front at (w .rising) in (
           (record { above = u .0; small = u .1 .0; under = w .used-under y (inl refl) }, λ h. w .not-before h y (inl refl)),
           record {
             rising = u .1 .1;

@@ -7,10 +7,11 @@ use Prim.Native.Nat.{ℕ, zero, suc, _+_, _-_, _≤_, _<_}
 use native.Mathlib.Nat.{add-zero}
 use native.Mathlib.Omega.{arith}
 use lib.ListN.{length, getD}
-use Rattle.lists.specs.Rising.{Up, In}
-use Rattle.lists.proofs.Rising.{Place, in-place, in-at, in-below, in-left, in-right, in-append, up-within, up-append}
+use Rattle.lists.specs.Rising.{In}
+use Rattle.lists.proofs.Rising.{Place, in-place, in-at, in-left, in-right, in-append, up-within, up-append}
 use Rattle.lists.proofs.Merging.{in-merge, in-merge-left}
-use Rattle.terms.specs.Limits.{keyLimit}
+use Rattle.terms.specs.Keys.{IsKey, RisingKeys, RisingFrom}
+use Rattle.terms.proofs.Keys.{rising-key}
 use Rattle.table.specs.Store.{Store}
 use Rattle.table.specs.Entries.{entryIn, runIn, usedIn}
 use Rattle.table.specs.Reads.{mergedIn, stretchOf, reads}
@@ -82,8 +83,8 @@ module _ (σ : Store) (ok : Accepted σ) where
     pub held-below : i + 1 < σ .s → (k : ℕ) → In k (mergedIn σ i) → k < entryIn σ (i + 1) .first .0
     held-below h k j = ⊎-elim (λ l. rules .run-apart h k l) (λ r. rules .used-apart h k r) (in-merge k (runIn σ i) (usedIn σ i) j)
 
-    pub held-key : (k : ℕ) → In k (mergedIn σ i) → k < keyLimit
-    held-key k j = in-below 0 keyLimit k (mergedIn σ i) (rules .rising) j
+    pub held-key : (k : ℕ) → In k (mergedIn σ i) → IsKey k
+    held-key k j = rising-key k (mergedIn σ i) (rules .rising) j
 
   -- First keys strictly rise.
   pub firsts-on : (d i : ℕ) → i + suc d < σ .s → entryIn σ i .first .0 < entryIn σ (i + suc d) .first .0
@@ -95,22 +96,22 @@ module _ (σ : Store) (ok : Accepted σ) where
   pub firsts-rise : (i j : ℕ) → i < j → j < σ .s → entryIn σ i .first .0 < entryIn σ j .first .0
   firsts-rise i j h l = let e : i + suc (j - i - 1) ≡ j = omega arith in rw e at (firsts-on (j - i - 1) i (omega arith))
 
-  stretch-rises : (c i lo : ℕ) → i + c ≡ σ .s → (0 < c → (k : ℕ) → In k (mergedIn σ i) → lo ≤ k) → Up lo keyLimit (stretchOf σ i c)
+  stretch-rises : (c i lo : ℕ) → i + c ≡ σ .s → (0 < c → (k : ℕ) → In k (mergedIn σ i) → lo ≤ k) → RisingFrom lo (stretchOf σ i c)
   unfolding stretchOf
   stretch-rises zero i lo e from = tt
   stretch-rises (suc zero) i lo e from =
       rw (append-nil (mergedIn σ i))
-      (up-within 0 keyLimit lo keyLimit (mergedIn σ i) (ok .rules i (omega arith) .rising) (from (omega arith)) (held-key i (omega arith)))
+      (up-within 0 _ lo _ (mergedIn σ i) (ok .rules i (omega arith) .rising) (from (omega arith)) (held-key i (omega arith)))
   stretch-rises (suc (suc c)) i lo e from =
       let next : suc i < σ .s = omega arith in
       let s : i + 1 ≡ suc i = omega arith in
       let below : (k : ℕ) → In k (mergedIn σ i) → k < entryIn σ (suc i) .first .0 = rw s at (held-below i (omega arith) (omega arith)) in
-      up-append lo (entryIn σ (suc i) .first .0) keyLimit (mergedIn σ i) (stretchOf σ (suc i) (suc c))
+      up-append lo (entryIn σ (suc i) .first .0) _ (mergedIn σ i) (stretchOf σ (suc i) (suc c))
       (omega (arith, from (omega arith) (entryIn σ i .first .0) (first-held i (omega arith)), below (entryIn σ i .first .0) (first-held i (omega arith))))
       (omega (arith, ok .rules (suc i) next .sound .first-small))
-      (up-within 0 keyLimit lo (entryIn σ (suc i) .first .0) (mergedIn σ i) (ok .rules i (omega arith) .rising) (from (omega arith)) below)
+      (up-within 0 _ lo (entryIn σ (suc i) .first .0) (mergedIn σ i) (ok .rules i (omega arith) .rising) (from (omega arith)) below)
       (stretch-rises (suc c) (suc i) (entryIn σ (suc i) .first .0) (omega arith) (λ z. held-from (suc i) next (omega arith)))
 
   -- The reads of an accepted store, all segments joined, strictly rise and are keys.
-  pub reads-rise : Up 0 keyLimit (reads σ)
+  pub reads-rise : RisingKeys (reads σ)
   reads-rise = stretch-rises (σ .s) 0 0 (omega arith) (λ z k j. omega arith)

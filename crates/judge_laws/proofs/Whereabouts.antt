@@ -10,9 +10,9 @@ use Rattle.lists.specs.Rising.{In}
 use Rattle.lists.proofs.Tests.{either}
 use Rattle.table.specs.Store.{Store}
 use Rattle.table.specs.Entries.{entryIn}
-use Rattle.table.specs.Chosen.{Chosen}
+use Rattle.choose.specs.Chosen.{Chosen}
 use Rattle.table.specs.Reads.{mergedIn, reads}
-use Rattle.table.proofs.Chosen.{one-choice}
+use Rattle.choose.proofs.Chosen.{one-choice}
 use Rattle.judge.specs.Rules.{Accepted}
 use Rattle.judge_laws.specs.Covered.{InSegment}
 use Rattle.judge_laws.proofs.Bridge.{first-is}

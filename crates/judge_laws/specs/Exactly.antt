@@ -2,9 +2,10 @@
 use mathlib.Core.Path.{_≡_}
 use Prim.Native.Nat.{ℕ, _+_, _≤_, _<_}
 use lib.ListN.{getD}
-use Rattle.lists.specs.Rising.{Up, In}
-use Rattle.terms.specs.Limits.{keyLimit, keyOf}
-use Rattle.table.specs.Store.{Store}
+use Rattle.lists.specs.Rising.{In}
+use Rattle.terms.specs.Limits.{keyOf}
+use Rattle.terms.specs.Keys.{RisingKeys}
+use Rattle.table.specs.Store.{Store, inUse}
 use Rattle.table.specs.Entries.{entryIn, runIn, usedIn}
 use Rattle.table.specs.Damaged.{Sound}
 use Rattle.table.specs.Reads.{mergedIn}
@@ -15,11 +16,11 @@ pub record OtherRules (σ : Store) (i : ℕ) : Type 0 where
   pub sound : Sound (σ .b) (σ .n) (entryIn σ i)
   pub nought : i ≡ 0 → entryIn σ i .base .0 ≡ 0
   pub first : getD (σ .keys) (entryIn σ i .base .0) 0 ≡ entryIn σ i .first .0
-  pub rising : Up 0 keyLimit (mergedIn σ i)
+  pub rising : RisingKeys (mergedIn σ i)
   pub not-before : 0 < i → (k : ℕ) → In k (usedIn σ i) → entryIn σ i .first .0 ≤ k
   pub run-apart : i + 1 < σ .s → (k : ℕ) → In k (runIn σ i) → k < entryIn σ (i + 1) .first .0
   pub used-apart : i + 1 < σ .s → (k : ℕ) → In k (usedIn σ i) → k < entryIn σ (i + 1) .first .0
 
 -- segment i's line misses no read in its run by more than e, worked exactly
 abbrev pub Exactly : Store → ℕ → Type 0
-Exactly σ i = (p : ℕ) → entryIn σ i .base .0 ≤ p → p < entryIn σ i .end .0 → Exact (σ .e) (entryIn σ i) (keyOf (getD (σ .keys) p 0)) p
+Exactly σ i = (p : ℕ) → entryIn σ i .base .0 ≤ p → p < entryIn σ i .end .0 → Exact (inUse σ) (entryIn σ i) (keyOf (getD (σ .keys) p 0)) p

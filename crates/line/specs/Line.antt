@@ -5,17 +5,19 @@ use Rattle.lists.specs.Tests.{pick}
 use Rattle.terms.specs.declared.Key.{Key}
 use Rattle.terms.specs.declared.Pos.{Pos}
 use Rattle.terms.specs.declared.Entry.{Entry}
-use Rattle.terms.specs.Limits.{keyLimit, nMost, riseMost}
+use Rattle.terms.specs.Limits.{nMost, riseMost}
+use Rattle.terms.specs.Keys.{IsKey}
 use Rattle.line.specs.declared.Guessed.{Guessed}
 use Rattle.line.specs.declared.Guessed.the-variants.{NoGuess, At}
 use Rattle.line.specs.declared.Span.{Span}
+use Rattle.line.specs.declared.Places.{Places}
 
 -- what an entry that is not damaged, and a key, give: the numbers of a guess are small
 pub record Lined (x : Entry) (k : Key) : Type 0 where
   pub rise-most : x .rise ≤ riseMost
   pub run-some : 0 < x .run
   pub base-most : x .base .0 ≤ nMost
-  pub key-small : k .0 < keyLimit
+  pub key-small : IsKey (k .0)
 
 -- "base + (k − first)·rise / run, the quotient rounded down"
 abbrev pub guessAt : Entry → Key → ℕ
@@ -36,3 +38,12 @@ aroundOf e x (At g) = nearOf e x g
 
 unfoldable pub windowOf : ℕ → Entry → Key → Span
 windowOf e x k = aroundOf e x (guessOf x k)
+
+-- and a run that is not backwards
+pub record Reaching (x : Entry) (k : Key) : Type 0 where
+  pub lined : Lined x k
+  pub some : x .base .0 ≤ x .end .0
+
+-- the window as places of the run, counted from the run's start
+unfoldable pub reachOf : ℕ → Entry → Key → Places
+reachOf e x k = record { from = windowOf e x k .from .0 - x .base .0; to = windowOf e x k .to .0 - x .base .0 }

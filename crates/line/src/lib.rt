@@ -4,7 +4,7 @@ use terms::Key;
 use terms::Pos;
 ghost use mathlib.Core.Path.{_≡_};
 ghost use Prim.Native.Nat.{_+_, _-_, min, max};
-ghost use Rattle.line.specs.Line.{Lined, guessOf, nearOf, windowOf};
+ghost use Rattle.line.specs.Line.{Lined, Reaching, guessOf, nearOf, windowOf, reachOf};
 
 // A guess, or the news that the key is below the first key and has none.
 pub enum Guessed {
@@ -16,6 +16,12 @@ pub enum Guessed {
 pub struct Span {
     pub from: Pos,
     pub to: Pos,
+}
+
+// Places of a segment's run, counted from its start: from `from` up to, and without, `to`.
+pub struct Places {
+    pub from: usize,
+    pub to: usize,
 }
 
 // base + (k - first) * rise / run, rounded down. Below the first key nothing is subtracted.
@@ -78,5 +84,22 @@ pub fn window(x: Entry, k: Key, e: usize) -> Span
             to: Pos(0),
         },
         Guessed::At(p) => near(x, p, e),
+    }
+}
+
+// The window for a key, as places of the run.
+pub fn reach(x: Entry, k: Key, e: usize) -> Places
+    requires { ⌜ Reaching x k ⌝ }
+    ensures { λ r. ⌜ r ≡ reachOf e x k ⌝ }
+{
+    let g = guess(x, k);
+    match g {
+        Guessed::NoGuess => Places { from: 0, to: 0 },
+        Guessed::At(p) => {
+            let up = p.0 - x.base.0;
+            let from = less(up, e);
+            let to = past(up, e, x.end.0 - x.base.0);
+            Places { from, to }
+        }
     }
 }

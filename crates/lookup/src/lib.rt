@@ -1,24 +1,21 @@
 // Point lookup: a public call that has no `requires`, and answers or refuses on every input.
 use answers::Looked;
+use choose::Picked;
 use scan::Found;
 use terms::Entry;
 use terms::Key;
 use terms::Pos;
 use terms::Refusal;
+use terms::Sizes;
 ghost use mathlib.Core.Path.{_≡_};
-ghost use Prim.Native.Nat.{_+_, _*_, _≤_};
-ghost use lib.ListN.{length};
 ghost use Rattle.table.specs.Store.{storeOf};
-ghost use Rattle.lookup.specs.Lookup.{Searchable, bufferedOf, searchedOf, lookupOf};
+ghost use Rattle.lookup.specs.Lookup.{Asked, bufferedOf, searchedOf, lookupOf};
 
-// The lowest used slot of segment i that holds k.
-fn in_buffer(b: usize, buffers: &[u64], i: usize, held: usize, k: Key) -> Looked
-    requires { ⌜ i * b + held ≤ length (now buffers) ⌝ }
-    ensures { λ r. ⌜ r ≡ bufferedOf b (now (buffers .entry)) i held (k .0) ⌝ }
+// The lowest used slot that holds k.
+fn in_used(i: usize, used: &[u64], k: Key) -> Looked
+    ensures { λ r. ⌜ r ≡ bufferedOf i (now (used .entry)) (k .0) ⌝ }
 {
-    let from = i * b;
-    let to = from + held;
-    let slot = scan::find(&buffers[from..to], 0, held, k.0);
+    let slot = scan::find(used, 0, used.len(), k.0);
     match slot {
         Found::At(j) => Looked::InBuffer {
             segment: i,
@@ -28,48 +25,40 @@ fn in_buffer(b: usize, buffers: &[u64], i: usize, held: usize, k: Key) -> Looked
     }
 }
 
-// The lowest window position of segment i that holds k, else its buffer. Nothing else of the slices is read.
-fn in_segment(
-    e: usize,
-    b: usize,
-    keys: &[u64],
-    buffers: &[u64],
-    x: Entry,
-    i: usize,
-    k: Key,
-) -> Looked
-    requires { ⌜ Searchable b (now keys) (now buffers) x i k ⌝ }
-    ensures { λ r. ⌜ r ≡ searchedOf e b (now (keys .entry)) (now (buffers .entry)) x i k ⌝ }
+// The lowest window position of segment i that holds k, else its lowest used slot. Nothing else of the store is read.
+fn in_segment(e: usize, x: Entry, i: usize, run: &[u64], used: &[u64], k: Key) -> Looked
+    requires { ⌜ Asked x (now run) (now used) k ⌝ }
+    ensures { λ r. ⌜ r ≡ searchedOf e x i (now (run .entry)) (now (used .entry)) k ⌝ }
 {
-    let w = line::window(x, k, e);
-    let place = scan::find(keys, w.from.0, w.to.0, k.0);
+    let w = line::reach(x, k, e);
+    let place = scan::find(run, w.from, w.to, k.0);
     match place {
-        Found::At(p) => Looked::InRun(Pos(p)),
-        Found::Nothing => in_buffer(b, buffers, i, x.held, k),
+        Found::At(p) => {
+            let at = x.base.0 + p;
+            Looked::InRun(Pos(at))
+        }
+        Found::Nothing => in_used(i, used, k),
     }
 }
 
 // Where k stands in a store. Refusals in this order: 1, limits; 2, k is no key; 9, the chosen entry is damaged.
-pub fn lookup(
-    e: usize,
-    b: usize,
-    n: usize,
-    s: usize,
-    keys: &[u64],
-    table: &[u64],
-    buffers: &[u64],
-    k: u64,
-) -> Looked
-    ensures { λ r. ⌜ r ≡ lookupOf (storeOf e b n s (now (keys .entry)) (now (table .entry)) (now (buffers .entry))) k ⌝ }
+pub fn lookup(z: Sizes, keys: &[u64], table: &[u64], buffers: &[u64], k: u64) -> Looked
+    ensures { λ r. ⌜ r ≡ lookupOf (storeOf z (now (keys .entry)) (now (table .entry)) (now (buffers .entry))) k ⌝ }
 {
-    if table::limited(e, b, n, s, keys, table, buffers) {
+    if table::limited(z, keys, table, buffers) {
         if terms::is_key(k) {
-            let i = table::choose(table, s, Key(k));
-            let x = table::entry_at(table, n, s, i);
-            if table::damaged(x, b, n) {
-                return Looked::Refused(Refusal::StoreWrong(i));
+            let picked = choose::pick_segment(z, table, Key(k));
+            match picked {
+                Picked::Sound(i, x) => {
+                    let run = segment::run_of(keys, x);
+                    let used = segment::used_of(z, buffers, i, x);
+                    let e = terms::in_use(z);
+                    return in_segment(e, x, i, run, used, Key(k));
+                }
+                Picked::Wrong(i) => {
+                    return Looked::Refused(Refusal::StoreWrong(i));
+                }
             }
-            return in_segment(e, b, keys, buffers, x, i, Key(k));
         }
         return Looked::Refused(Refusal::LargeKey(Pos(0)));
     }

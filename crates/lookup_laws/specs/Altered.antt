@@ -4,9 +4,9 @@ use mathlib.Core.List.{List}
 use Prim.Native.Nat.{ℕ, _+_, _*_, _<_}
 use lib.ListN.{length, getD}
 use Rattle.terms.specs.Limits.{keyOf}
-use Rattle.table.specs.Store.{Store}
+use Rattle.table.specs.Store.{Store, inUse}
 use Rattle.table.specs.Entries.{entryIn}
-use Rattle.table.specs.Chosen.{chosenOf}
+use Rattle.choose.specs.Chosen.{chosenOf}
 use Rattle.line.specs.Meaning.{Near}
 
 -- the store with other reads in its slices: table and numbers untouched
@@ -17,7 +17,7 @@ altered σ keys buffers = record { e = σ .e; b = σ .b; n = σ .n; s = σ .s; k
 pub record Alike (σ : Store) (keys buffers : List ℕ) (k : ℕ) : Type 0 where
   pub keys-length : length keys ≡ length (σ .keys)
   pub buffers-length : length buffers ≡ length (σ .buffers)
-  pub near : (p : ℕ) → Near (σ .e) (entryIn σ (chosenOf (σ .table) (σ .s) k)) (keyOf k) p → getD keys p 0 ≡ getD (σ .keys) p 0
+  pub near : (p : ℕ) → Near (inUse σ) (entryIn σ (chosenOf (σ .table) (σ .s) k)) (keyOf k) p → getD keys p 0 ≡ getD (σ .keys) p 0
   pub used :
       (j : ℕ) → j < entryIn σ (chosenOf (σ .table) (σ .s) k) .held
       → getD buffers (chosenOf (σ .table) (σ .s) k * σ .b + j) 0 ≡ getD (σ .buffers) (chosenOf (σ .table) (σ .s) k * σ .b + j) 0

@@ -1,14 +1,15 @@
 -- What each answer of lookup means, with no search in it: 01's words as a relation between a store, a key and an answer.
 use mathlib.Core.Path.{_≡_}
-use Prim.Native.Nat.{ℕ, _+_, _*_, _≤_, _<_}
+use Prim.Native.Nat.{ℕ, _+_, _*_, _<_}
 use lib.ListN.{getD}
-use Rattle.terms.specs.Limits.{keyLimit, keyOf}
+use Rattle.terms.specs.Limits.{keyOf}
+use Rattle.terms.specs.Keys.{IsKey, NoKey}
 use Rattle.terms.specs.declared.Refusal.the-variants.{Limits as OutOfLimits, LargeKey, StoreWrong}
-use Rattle.table.specs.Store.{Store}
+use Rattle.table.specs.Store.{Store, inUse}
 use Rattle.table.specs.Limits.{Limits}
 use Rattle.table.specs.Entries.{entryIn}
 use Rattle.table.specs.Damaged.{Sound}
-use Rattle.table.specs.Chosen.{Chosen}
+use Rattle.choose.specs.Chosen.{Chosen}
 use Rattle.line.specs.Meaning.{Near}
 use Rattle.scan.specs.Meaning.{None, Lowest}
 use Rattle.answers.specs.declared.Looked.{Looked}
@@ -17,7 +18,7 @@ use Rattle.answers.specs.declared.Looked.the-variants.{InRun, InBuffer, Absent,
 -- neither refusal 1 nor 2 is due, and segment i is the one chosen for k
 pub record Asked (σ : Store) (k i : ℕ) : Type 0 where
   pub limits : Limits σ
-  pub key : k < keyLimit
+  pub key : IsKey k
   pub chosen : Chosen (σ .table) (σ .s) k i
 
 -- nor is 9: its entry is not damaged
@@ -27,7 +28,7 @@ pub record Taken (σ : Store) (k i : ℕ) : Type 0 where
 
 -- position p is in segment i's window for k, and its key is k
 pub record Stands (σ : Store) (k i p : ℕ) : Type 0 where
-  pub near : Near (σ .e) (entryIn σ i) (keyOf k) p
+  pub near : Near (inUse σ) (entryIn σ i) (keyOf k) p
   pub is : getD (σ .keys) p 0 ≡ k
 
 -- slot j of segment i holds k
@@ -60,5 +61,5 @@ pub data Answers (σ : Store) (k : ℕ) : Looked → Type 0 where
   in-buffer : {i j : ℕ} → Waiting σ k i j → Answers σ k (InBuffer i j)
   absent : Missing σ k → Answers σ k Absent
   refused-1 : (Limits σ → ⊥) → Answers σ k (Refused OutOfLimits)
-  refused-2 : Limits σ → keyLimit ≤ k → Answers σ k (Refused (LargeKey (record { 0 = 0 })))
+  refused-2 : Limits σ → NoKey k → Answers σ k (Refused (LargeKey (record { 0 = 0 })))
   refused-9 : {i : ℕ} → Asked σ k i → (Sound (σ .b) (σ .n) (entryIn σ i) → ⊥) → Answers σ k (Refused (StoreWrong i))

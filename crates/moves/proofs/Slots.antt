@@ -10,9 +10,10 @@ use mir.Val.{Fits}
 use lib.ListN.{length, take, drop, getD, take-append-drop, length-drop}
 use lib.Seq.{drop-drop, drop-cons, drop-length, getD-drop, take-add}
 use Rattle.lists.proofs.Lists.{take-front, drop-front}
-use Rattle.moves.specs.Shift.{shiftUp, Movable}
+use Rattle.lists.specs.Moved.{moved}
+use Rattle.moves.specs.Shift.{Movable}
 use Rattle.moves.specs.Slots.{heldOf, laid, lifted, Liftable, Lifting}
-use Rattle.moves.proofs.Shift.{length-shift}
+use Rattle.lists.proofs.Moved.{length-moved}
 
 pub length-held : (c : ℕ) (cells : List ℕ) → length (heldOf c cells) ≡ c
 unfolding heldOf
@@ -99,8 +100,8 @@ module _ (xs tail : List ℕ) (b count by : ℕ) where
       pub lift-asks : (m : ℕ) → m ≤ getD tail (5 * (c - 1) + 4) 0 → Movable slots ((c - 1) * b) m (by * b)
       lift-asks m l = record { fits = omega (arith, few-used, room-here, apart, w .same) }
 
-      pub lift-turn : {s : List ℕ} → s ≡ shiftUp ((c - 1) * b) (getD tail (5 * (c - 1) + 4) 0) (by * b) slots → Lifting xs tail b count by s (c - 1)
-      unfolding shiftUp laid
+      pub lift-turn : {s : List ℕ} → s ≡ moved ((c - 1) * b) (getD tail (5 * (c - 1) + 4) 0) ((c - 1) * b + by * b) slots → Lifting xs tail b count by s (c - 1)
+      unfolding moved laid
       lift-turn {s} is =
           let d : ℕ = c - 1 in
           let v : ℕ = getD tail (5 * d + 4) 0 in
@@ -117,7 +118,7 @@ module _ (xs tail : List ℕ) (b count by : ℕ) where
           record {
             asked = w .asked;
             more = omega (arith, w .more);
-            same = ap length is ∙ length-shift slots F v (by * b) (lift-asks v (le-refl v) .fits) ∙ w .same;
+            same = ap length is ∙ length-moved slots F v (F + by * b) (omega (arith, lift-asks v (le-refl v))) (omega (arith, lift-asks v (le-refl v))) ∙ w .same;
             is =
                 is ∙ ap (λ (m : List ℕ). take (F + by * b) m ++ (take v (drop F m) ++ drop (F + by * b + v) m)) now-is
                 ∙ rw (e, q, drop-drop b F xs, drop-drop b D xs)

@@ -3,15 +3,17 @@
 use mathlib.Core.Path.{_≡_, refl, sym, ap, _∙_}
 use mathlib.Core.List.{List, [], _∷_, _++_, append-assoc}
 use Prim.Native.Nat.{ℕ, zero, suc, _+_, _-_, _*_, _^_, _≤_, _<_}
+use native.Mathlib.Nat.{zero-add}
 use native.Mathlib.Omega.{arith}
 use native.Mathlib.Numerals.{add-one}
 use lib.ListN.{length, take, drop, getD, set, length-drop, length-set}
 use lib.Seq.{drop-drop, getD-drop, drop-at, length-take-le}
 use borrow.Rule.Slice.PartMut.{putMid}
 use Rattle.lists.proofs.Lists.{set-past, getD-past, getD-take-append, tail-is, tail-back}
-use Rattle.moves.specs.Shift.{shiftUp, Movable}
+use Rattle.lists.specs.Moved.{moved}
+use Rattle.moves.specs.Shift.{Movable}
 use Rattle.moves.specs.Tail.{raised, raisedUp, Raisable, Tail, Raising}
-use Rattle.moves.proofs.Shift.{take-shift, drop-shift, length-shift}
+use Rattle.lists.proofs.Moved.{take-moved, drop-moved, length-moved}
 
 pub length-raised : (c by : ℕ) (cells : List ℕ) → length (raised c by cells) ≡ 5 * c
 unfolding raised
@@ -109,15 +111,18 @@ module _ (xs : List ℕ) (entries places add : ℕ) (asked : Tail xs entries pla
   pub tail-shift : Movable xs 0 (5 * entries) (5 * places)
   tail-shift = record { fits = omega (arith, asked .held) }
 
-  module _ {s : List ℕ} (is : s ≡ shiftUp 0 (5 * entries) (5 * places) xs) where
+  module _ {s : List ℕ} (up : s ≡ moved 0 (5 * entries) (0 + 5 * places) xs) where
+    is : s ≡ moved 0 (5 * entries) (5 * places) xs
+    is = up ∙ ap (λ (to : ℕ). moved 0 (5 * entries) to xs) (zero-add (5 * places))
+
     long : length s ≡ length xs
-    long = ap length is ∙ length-shift xs 0 (5 * entries) (5 * places) (tail-shift .fits)
+    long = ap length is ∙ length-moved xs 0 (5 * entries) (5 * places) (omega (arith, asked .held)) (omega (arith, asked .held))
 
     below : take (5 * places) s ≡ take (5 * places) xs
-    below = ap (take (5 * places)) is ∙ take-shift xs 0 (5 * entries) (5 * places) (5 * places) (omega arith) (omega (arith, asked .held))
+    below = ap (take (5 * places)) is ∙ take-moved xs 0 (5 * entries) (5 * places) (omega (arith, asked .held))
 
     above : drop (5 * places) s ≡ take (5 * entries) xs ++ drop (5 * places + 5 * entries) xs
-    above = ap (drop (5 * places)) is ∙ drop-shift xs 0 (5 * entries) (5 * places) (5 * places) (omega arith) (omega (arith, asked .held))
+    above = ap (drop (5 * places)) is ∙ drop-moved xs 0 (5 * entries) (5 * places) (omega (arith, asked .held))
 
     pub tail-inside : 5 * places ≤ length s
     tail-inside = omega (arith, long, asked .held)

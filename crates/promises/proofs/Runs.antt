@@ -2,23 +2,20 @@
 -- Assumes nothing.
 use mathlib.Core.List.{List, [], _∷_}
 use Prim.Native.Nat.{ℕ}
-use Rattle.cone.specs.Runs.{CutRun, cutRuns, Hold, runs-hold}
-use Rattle.kept.specs.Runs.{LookRun, lookRuns, AllLook, looks-hold, InsertRun, insertRuns, AllInsert, inserts-hold}
-use Rattle.promises.specs.Runs.{Run, AllHold, cutsThen, looksThen, insertsThen, runs}
+use Rattle.cone.specs.Runs.{cutRuns, runs-hold}
+use Rattle.theory_kept.specs.Runs.{lookRuns, looks-hold, insertRuns, inserts-hold}
+use Rattle.promises.specs.Runs.{Run, cuts, looks, inserts, Holds, AllHold, runsThen, runs}
 
-cuts-then : (rs : List CutRun) (rest : List Run) → Hold rs → AllHold rest → AllHold (cutsThen rs rest)
-cuts-then [] rest h g = g
-cuts-then (r ∷ rs) rest h g = (h .0, cuts-then rs rest (h .1) g)
+-- the runs of one table hold
+abbrev Hold : {A : Type 0} → (A → Run) → List A → Type 0
+Hold kind [] = Unit {0}
+Hold kind (r ∷ rs) = Holds (kind r) × Hold kind rs
 
-looks-then : (rs : List LookRun) (rest : List Run) → AllLook rs → AllHold rest → AllHold (looksThen rs rest)
-looks-then [] rest h g = g
-looks-then (r ∷ rs) rest h g = (h .0, looks-then rs rest (h .1) g)
-
-inserts-then : (rs : List InsertRun) (rest : List Run) → AllInsert rs → AllHold rest → AllHold (insertsThen rs rest)
-inserts-then [] rest h g = g
-inserts-then (r ∷ rs) rest h g = (h .0, inserts-then rs rest (h .1) g)
+hold-then : {A : Type 0} (kind : A → Run) (rs : List A) (rest : List Run) → Hold kind rs → AllHold rest → AllHold (runsThen kind rs rest)
+hold-then kind [] rest h g = g
+hold-then kind (r ∷ rs) rest h g = (h .0, hold-then kind rs rest (h .1) g)
 
 pub all-hold : (e : ℕ) → AllHold (runs e)
 all-hold e =
-    cuts-then (cutRuns e) (looksThen lookRuns (insertsThen insertRuns [])) (runs-hold e)
-    (looks-then lookRuns (insertsThen insertRuns []) looks-hold (inserts-then insertRuns [] inserts-hold tt))
+    let last : List Run = runsThen inserts insertRuns [] in
+    hold-then cuts (cutRuns e) (runsThen looks lookRuns last) (runs-hold e) (hold-then looks lookRuns last looks-hold (hold-then inserts insertRuns [] inserts-hold tt))

@@ -4,7 +4,7 @@ use mathlib.Core.List.{List, [], _∷_}
 use Prim.Native.Nat.{ℕ}
 use Rattle.cone.specs.Rule.{cut}
 use Rattle.cone.specs.Runs.{CutRun, cutRuns}
-use Rattle.kept.specs.Runs.{LookRun, Looks, lookRuns, InsertRun, Inserts, insertRuns}
+use Rattle.theory_kept.specs.Runs.{LookRun, Looks, lookRuns, InsertRun, Inserts, insertRuns}
 
 -- a run: keys and a bound with the segments of their cut (P1 to P8); a lookup with its guess, its window and its answer (P9, P10); inserts with
 -- their answers and every cell that they leave (P11, P12)
@@ -22,18 +22,11 @@ abbrev pub AllHold : List Run → Type 0
 AllHold [] = Unit {0}
 AllHold (r ∷ rs) = Holds r × AllHold rs
 
-abbrev pub cutsThen : List CutRun → List Run → List Run
-cutsThen [] rest = rest
-cutsThen (r ∷ rs) rest = cuts r ∷ cutsThen rs rest
-
-abbrev pub looksThen : List LookRun → List Run → List Run
-looksThen [] rest = rest
-looksThen (r ∷ rs) rest = looks r ∷ looksThen rs rest
-
-abbrev pub insertsThen : List InsertRun → List Run → List Run
-insertsThen [] rest = rest
-insertsThen (r ∷ rs) rest = inserts r ∷ insertsThen rs rest
+-- the runs of one table, then the rest
+abbrev pub runsThen : {A : Type 0} → (A → Run) → List A → List Run → List Run
+runsThen kind [] rest = rest
+runsThen kind (r ∷ rs) rest = kind r ∷ runsThen kind rs rest
 
 -- P1 to P12, in order; P7 is of any e
 abbrev pub runs : ℕ → List Run
-runs e = cutsThen (cutRuns e) (looksThen lookRuns (insertsThen insertRuns []))
+runs e = runsThen cuts (cutRuns e) (runsThen looks lookRuns (runsThen inserts insertRuns []))

@@ -8,29 +8,30 @@ use native.Mathlib.Numerals.{add-one}
 use native.Mathlib.Omega.{arith}
 use mir.Syntax.{w64}
 use mir.Val.{Fits}
-use lib.Dec.{ltb}
 use lib.ListN.{length}
 use borrow.Author.Tests.{le-leb, lt-leb}
-use Rattle.terms.specs.Limits.{keyLimit}
+use Rattle.terms.specs.Keys.{isKey}
 use Rattle.terms.specs.declared.Refusal.the-variants.{Limits as OutOfLimits, LargeKey, Backwards, OutRoom, StoreWrong}
+use Rattle.terms.specs.declared.Sizes.{Sizes}
 use Rattle.table.specs.Store.{Store, storeOf}
 use Rattle.table.specs.Limits.{Limits, limitedOf}
 use Rattle.table.specs.Entries.{Rows}
-use Rattle.table.specs.Chosen.{chosenOf}
+use Rattle.choose.specs.Chosen.{chosenOf}
+use Rattle.choose.specs.Stretch.{keysIn, keysFrom}
 use Rattle.table.proofs.Limits.{limits-of}
-use Rattle.table.proofs.Chosen.{chosen-below}
+use Rattle.choose.proofs.Chosen.{chosen-below}
 use Rattle.scan.specs.declared.Found.{Found}
 use Rattle.scan.specs.declared.Found.the-variants.{At, Nothing}
 use Rattle.scan.specs.Scan.{failsOf, noneOf}
 use Rattle.scan.proofs.Meaning.{passes}
-use Rattle.listing.specs.declared.Judged.{Judged}
-use Rattle.listing.specs.declared.Judged.the-variants.{WrongAt, Counts}
-use Rattle.listing.specs.Stretch.{fineOf, keysIn, countedBy, judgedOf}
-use Rattle.listing.specs.Asks.{Stretch, Fillable}
-use Rattle.listing.proofs.Stretches.{fine-sound}
+use Rattle.range_stretch.specs.declared.Judged.{Judged}
+use Rattle.range_stretch.specs.declared.Judged.the-variants.{WrongAt, Counts}
+use Rattle.range_stretch.specs.Stretch.{fineOf, countedBy, judgedOf}
+use Rattle.range_stretch.specs.Asks.{Stretch, Fillable}
+use Rattle.range_stretch.proofs.Stretches.{fine-sound}
 use Rattle.answers.specs.declared.Ranged.{Ranged}
 use Rattle.answers.specs.declared.Ranged.the-variants.{Listed, Refused}
-use Rattle.range.specs.Range.{stretchedOf, chosenRangeOf, rangeOf, outBy, keysFrom}
+use Rattle.range.specs.Range.{stretchedOf, chosenRangeOf, rangeOf, outBy}
 
 -- ---- stretched
 
@@ -75,26 +76,26 @@ pub ruleset stretched-cases = (stretched-wrong, stretched-asks, stretched-listed
 
 -- ---- chosen
 
-module _ (e b n s : ℕ) (keys table buffers : List ℕ) (limits : Limits (storeOf e b n s keys table buffers)) where
-  pub chosen-rows : Rows table s
+module _ (z : Sizes) (keys table buffers : List ℕ) (limits : Limits (storeOf z keys table buffers)) where
+  pub chosen-rows : Rows table (z .s)
   chosen-rows = omega (arith, limits)
 
-  module _ (high : ℕ) {z : ℕ} (is : z ≡ chosenOf table s high) where
-    inside : z < s
-    inside = rw is (chosen-below table high s (limits .s-least))
+  module _ (high : ℕ) {last : ℕ} (is : last ≡ chosenOf table (z .s) high) where
+    inside : last < z .s
+    inside = rw is (chosen-below table high (z .s) (limits .s-least))
 
-    pub chosen-past : Fits w64 (z + 1)
+    pub chosen-past : Fits w64 (last + 1)
     chosen-past = record { fits = omega (arith, inside, limits .s-most) }
 
-    pub chosen-asks : (a : ℕ) → Stretch (storeOf e b n s keys table buffers) a (z + 1)
+    pub chosen-asks : (a : ℕ) → Stretch (storeOf z keys table buffers) a (last + 1)
     chosen-asks a = record { limits = limits; inside = omega (arith, inside) }
 
-module _ (σ : Store) (low high : ℕ) {a z : ℕ} (p : a ≡ chosenOf (σ .table) (σ .s) low) (q : z ≡ chosenOf (σ .table) (σ .s) high) where
-  pub chosen-answered : (room : ℕ) {r : Ranged} → r ≡ stretchedOf σ low high a (z + 1) room → r ≡ chosenRangeOf σ low high room
+module _ (σ : Store) (low high : ℕ) {a last : ℕ} (p : a ≡ chosenOf (σ .table) (σ .s) low) (q : last ≡ chosenOf (σ .table) (σ .s) high) where
+  pub chosen-answered : (room : ℕ) {r : Ranged} → r ≡ stretchedOf σ low high a (last + 1) room → r ≡ chosenRangeOf σ low high room
   unfolding chosenRangeOf
   chosen-answered room is = rw (p, q, add-one) at is
 
-  pub chosen-written : (out : List ℕ) (r : Ranged) {out′ : List ℕ} → out′ ≡ outBy (keysIn σ low high a (z + 1)) r out → out′ ≡ outBy (keysFrom σ low high) r out
+  pub chosen-written : (out : List ℕ) (r : Ranged) {out′ : List ℕ} → out′ ≡ outBy (keysIn σ low high a (last + 1)) r out → out′ ≡ outBy (keysFrom σ low high) r out
   chosen-written out r is = rw (p, q, add-one) at is
 
 pub ruleset chosen-cases = (chosen-rows, chosen-past, chosen-asks, chosen-answered, chosen-written)
@@ -109,12 +110,12 @@ module _ (σ : Store) (low high room : ℕ) {l : Bool} (limited : l ≡ limitedO
   unfolding rangeOf
   range-limits q = rw (sym limited ∙ q) refl
 
-  module _ (fine : l ≡ true) {u : Bool} (low-test : u ≡ ltb low keyLimit) where
+  module _ (fine : l ≡ true) {u : Bool} (low-test : u ≡ isKey low) where
     pub range-low : u ≡ false → Refused (LargeKey (record { 0 = 0 })) ≡ rangeOf σ low high room
     unfolding rangeOf
     range-low q = rw (sym limited ∙ fine, sym low-test ∙ q) refl
 
-    module _ (low-key : u ≡ true) {v : Bool} (high-test : v ≡ ltb high keyLimit) where
+    module _ (low-key : u ≡ true) {v : Bool} (high-test : v ≡ isKey high) where
       pub range-high : v ≡ false → Refused (LargeKey (record { 0 = 0 })) ≡ rangeOf σ low high room
       unfolding rangeOf
       range-high q = rw (sym limited ∙ fine, sym low-test ∙ low-key, sym high-test ∙ q) refl

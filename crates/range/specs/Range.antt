@@ -1,17 +1,17 @@
 -- 01, "Range low..high": what it answers on every input, and what it leaves in the out slice.
 use mathlib.Core.List.{List}
-use Prim.Native.Nat.{ℕ, suc}
-use lib.Dec.{leb, ltb}
+use Prim.Native.Nat.{ℕ}
+use lib.Dec.{leb}
 use Rattle.lists.specs.Tests.{pick}
 use Rattle.lists.specs.Over.{over}
-use Rattle.terms.specs.Limits.{keyLimit}
+use Rattle.terms.specs.Keys.{isKey}
 use Rattle.terms.specs.declared.Refusal.the-variants.{Limits, LargeKey, Backwards, OutRoom, StoreWrong}
 use Rattle.table.specs.Store.{Store}
 use Rattle.table.specs.Limits.{limitedOf}
-use Rattle.table.specs.Chosen.{chosenOf}
-use Rattle.listing.specs.declared.Judged.{Judged}
-use Rattle.listing.specs.declared.Judged.the-variants.{WrongAt, Counts}
-use Rattle.listing.specs.Stretch.{keysIn, judgedOf}
+use Rattle.choose.specs.Stretch.{firstIn, pastIn}
+use Rattle.range_stretch.specs.declared.Judged.{Judged}
+use Rattle.range_stretch.specs.declared.Judged.the-variants.{WrongAt, Counts}
+use Rattle.range_stretch.specs.Stretch.{judgedOf}
 use Rattle.answers.specs.declared.Ranged.{Ranged}
 use Rattle.answers.specs.declared.Ranged.the-variants.{Listed, Refused}
 
@@ -24,13 +24,6 @@ unfoldable pub stretchedOf : Store → ℕ → ℕ → ℕ → ℕ → ℕ → R
 stretchedOf σ low high a to room = listedBy room (judgedOf σ low high a to)
 
 -- "The stretch runs from the segment chosen for low to that chosen for high."
-abbrev pub firstIn : Store → ℕ → ℕ
-firstIn σ low = chosenOf (σ .table) (σ .s) low
-
-abbrev pub pastIn : Store → ℕ → ℕ
-pastIn σ high = suc (chosenOf (σ .table) (σ .s) high)
-
--- the stretch between the two, ends included
 unfoldable pub chosenRangeOf : Store → ℕ → ℕ → ℕ → Ranged
 chosenRangeOf σ low high room = stretchedOf σ low high (firstIn σ low) (pastIn σ high) room
 
@@ -38,8 +31,8 @@ chosenRangeOf σ low high room = stretchedOf σ low high (firstIn σ low) (pastI
 unfoldable pub rangeOf : Store → ℕ → ℕ → ℕ → Ranged
 rangeOf σ low high room =
     pick (limitedOf σ)
-    (pick (ltb low keyLimit)
-    (pick (ltb high keyLimit)
+    (pick (isKey low)
+    (pick (isKey high)
     (pick (leb low high) (chosenRangeOf σ low high room) (Refused Backwards))
     (Refused (LargeKey (record { 0 = 0 }))))
     (Refused (LargeKey (record { 0 = 0 }))))
@@ -50,7 +43,3 @@ rangeOf σ low high room =
 abbrev pub outBy : List ℕ → Ranged → List ℕ → List ℕ
 outBy keys (Listed m) out = over out 0 keys
 outBy keys (Refused r) out = out
-
--- the keys that an accepted call writes
-abbrev pub keysFrom : Store → ℕ → ℕ → List ℕ
-keysFrom σ low high = keysIn σ low high (firstIn σ low) (pastIn σ high)

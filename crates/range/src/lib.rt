@@ -1,23 +1,21 @@
 // Range: the keys from low to high, written to a slice. Everything is decided before anything is written, and nothing is copied out.
 use answers::Ranged;
-use listing::Judged;
+use range_stretch::Judged;
 use terms::Key;
 use terms::Pos;
 use terms::Refusal;
+use terms::Sizes;
 ghost use mathlib.Core.Path.{_≡_};
 ghost use lib.ListN.{length};
 ghost use Rattle.table.specs.Store.{storeOf};
 ghost use Rattle.table.specs.Limits.{Limits};
-ghost use Rattle.listing.specs.Stretch.{keysIn};
-ghost use Rattle.listing.specs.Asks.{Stretch};
-ghost use Rattle.range.specs.Range.{stretchedOf, chosenRangeOf, rangeOf, outBy, keysFrom};
+ghost use Rattle.choose.specs.Stretch.{keysIn, keysFrom};
+ghost use Rattle.range_stretch.specs.Asks.{Stretch};
+ghost use Rattle.range.specs.Range.{stretchedOf, chosenRangeOf, rangeOf, outBy};
 
 // The stretch, judged and then written.
 fn stretched(
-    e: usize,
-    b: usize,
-    n: usize,
-    s: usize,
+    z: Sizes,
     keys: &[u64],
     table: &[u64],
     buffers: &[u64],
@@ -27,16 +25,16 @@ fn stretched(
     to: usize,
     out: &mut [u64],
 ) -> Ranged
-    requires { ⌜ Stretch (storeOf e b n s (now keys) (now table) (now buffers)) a to ⌝ }
-    ensures answered { λ r. ⌜ r ≡ stretchedOf (storeOf e b n s (now (keys .entry)) (now (table .entry)) (now (buffers .entry))) (low .0) (high .0) a to (length (now (out .entry))) ⌝ }
-    ensures written { λ r. ⌜ now (out .exit) ≡ outBy (keysIn (storeOf e b n s (now (keys .entry)) (now (table .entry)) (now (buffers .entry))) (low .0) (high .0) a to) r (now (out .entry)) ⌝ }
+    requires { ⌜ Stretch (storeOf z (now keys) (now table) (now buffers)) a to ⌝ }
+    ensures answered { λ r. ⌜ r ≡ stretchedOf (storeOf z (now (keys .entry)) (now (table .entry)) (now (buffers .entry))) (low .0) (high .0) a to (length (now (out .entry))) ⌝ }
+    ensures written { λ r. ⌜ now (out .exit) ≡ outBy (keysIn (storeOf z (now (keys .entry)) (now (table .entry)) (now (buffers .entry))) (low .0) (high .0) a to) r (now (out .entry)) ⌝ }
 {
-    let j = listing::judge_stretch(e, b, n, s, keys, table, buffers, low, high, a, to);
+    let j = range_stretch::judge_stretch(z, keys, table, buffers, low, high, a, to);
     match j {
         Judged::WrongAt(i) => Ranged::Refused(Refusal::StoreWrong(i)),
         Judged::Counts(m) => {
             if m <= out.len() {
-                listing::fill(e, b, n, s, keys, table, buffers, low, high, a, to, out);
+                range_stretch::fill(z, keys, table, buffers, low, high, a, to, out);
                 return Ranged::Listed(m);
             }
             Ranged::Refused(Refusal::OutRoom)
@@ -46,10 +44,7 @@ fn stretched(
 
 // The stretch from the segment chosen for low to that chosen for high.
 fn chosen(
-    e: usize,
-    b: usize,
-    n: usize,
-    s: usize,
+    z: Sizes,
     keys: &[u64],
     table: &[u64],
     buffers: &[u64],
@@ -57,22 +52,19 @@ fn chosen(
     high: Key,
     out: &mut [u64],
 ) -> Ranged
-    requires { ⌜ Limits (storeOf e b n s (now keys) (now table) (now buffers)) ⌝ }
-    ensures answered { λ r. ⌜ r ≡ chosenRangeOf (storeOf e b n s (now (keys .entry)) (now (table .entry)) (now (buffers .entry))) (low .0) (high .0) (length (now (out .entry))) ⌝ }
-    ensures written { λ r. ⌜ now (out .exit) ≡ outBy (keysFrom (storeOf e b n s (now (keys .entry)) (now (table .entry)) (now (buffers .entry))) (low .0) (high .0)) r (now (out .entry)) ⌝ }
+    requires { ⌜ Limits (storeOf z (now keys) (now table) (now buffers)) ⌝ }
+    ensures answered { λ r. ⌜ r ≡ chosenRangeOf (storeOf z (now (keys .entry)) (now (table .entry)) (now (buffers .entry))) (low .0) (high .0) (length (now (out .entry))) ⌝ }
+    ensures written { λ r. ⌜ now (out .exit) ≡ outBy (keysFrom (storeOf z (now (keys .entry)) (now (table .entry)) (now (buffers .entry))) (low .0) (high .0)) r (now (out .entry)) ⌝ }
 {
-    let a = table::choose(table, s, low);
-    let z = table::choose(table, s, high);
-    stretched(e, b, n, s, keys, table, buffers, low, high, a, z + 1, out)
+    let a = choose::choose(table, z.s, low);
+    let last = choose::choose(table, z.s, high);
+    stretched(z, keys, table, buffers, low, high, a, last + 1, out)
 }
 
 // The keys from low to high of a store, to the start of the out slice. Refusals in this order: 1, limits; 2, low or high is no key;
 // 4, low above high; 9, the stretch is wrong; 8, the out slice is too short.
 pub fn range(
-    e: usize,
-    b: usize,
-    n: usize,
-    s: usize,
+    z: Sizes,
     keys: &[u64],
     table: &[u64],
     buffers: &[u64],
@@ -80,14 +72,14 @@ pub fn range(
     high: u64,
     out: &mut [u64],
 ) -> Ranged
-    ensures answered { λ r. ⌜ r ≡ rangeOf (storeOf e b n s (now (keys .entry)) (now (table .entry)) (now (buffers .entry))) low high (length (now (out .entry))) ⌝ }
-    ensures written { λ r. ⌜ now (out .exit) ≡ outBy (keysFrom (storeOf e b n s (now (keys .entry)) (now (table .entry)) (now (buffers .entry))) low high) r (now (out .entry)) ⌝ }
+    ensures answered { λ r. ⌜ r ≡ rangeOf (storeOf z (now (keys .entry)) (now (table .entry)) (now (buffers .entry))) low high (length (now (out .entry))) ⌝ }
+    ensures written { λ r. ⌜ now (out .exit) ≡ outBy (keysFrom (storeOf z (now (keys .entry)) (now (table .entry)) (now (buffers .entry))) low high) r (now (out .entry)) ⌝ }
 {
-    if table::limited(e, b, n, s, keys, table, buffers) {
+    if table::limited(z, keys, table, buffers) {
         if terms::is_key(low) {
             if terms::is_key(high) {
                 if low <= high {
-                    return chosen(e, b, n, s, keys, table, buffers, Key(low), Key(high), out);
+                    return chosen(z, keys, table, buffers, Key(low), Key(high), out);
                 }
                 return Ranged::Refused(Refusal::Backwards);
             }

@@ -6,28 +6,30 @@ use mathlib.Core.List.{List, _++_}
 use mathlib.Core.Logic.{_⊎_, inl, inr, ⊎-elim}
 use Prim.Native.Nat.{ℕ, suc, _+_, _-_, _≤_}
 use native.Mathlib.Omega.{arith}
-use lib.Dec.{leb, ltb}
+use lib.Dec.{leb}
 use lib.ListN.{length, drop}
-use borrow.Author.Tests.{leb-true, leb-false, le-leb, lt-leb, ltb-true, ltb-false, lt-ltb, le-ltb}
+use borrow.Author.Tests.{leb-true, leb-false, le-leb, lt-leb}
 use Rattle.lists.proofs.Over.{over-start}
 use Rattle.lists.proofs.Tests.{either, clash, is-true, is-false}
-use Rattle.terms.specs.Limits.{keyLimit}
+use Rattle.terms.specs.Keys.{isKey, NoKey}
 use Rattle.terms.specs.declared.Refusal.the-variants.{LargeKey, OutRoom, StoreWrong}
+use Rattle.terms.proofs.Keys.{key-true, key-false, true-key, false-key}
 use Rattle.table.specs.Store.{Store}
 use Rattle.table.specs.Limits.{Limits, limitedOf}
-use Rattle.table.specs.Chosen.{chosenOf}
+use Rattle.choose.specs.Chosen.{chosenOf}
+use Rattle.choose.specs.Stretch.{keysFrom}
 use Rattle.table.proofs.Limits.{limited-true, true-limited}
-use Rattle.table.proofs.Chosen.{chosen-is, one-choice}
+use Rattle.choose.proofs.Chosen.{chosen-is, one-choice}
 use Rattle.scan.specs.declared.Found.{Found}
 use Rattle.scan.specs.declared.Found.the-variants.{At, Nothing}
 use Rattle.scan.specs.Scan.{failsOf}
 use Rattle.scan.specs.Meaning.{Scanned}
 use Rattle.scan.proofs.Meaning.{fails-scanned, one-answer}
-use Rattle.stretch.proofs.Stretch.{stretch-forward}
-use Rattle.listing.specs.Stretch.{fineOf, countedBy, judgedOf}
+use Rattle.theory_stretch.proofs.Stretch.{stretch-forward}
+use Rattle.range_stretch.specs.Stretch.{fineOf, countedBy, judgedOf}
 use Rattle.answers.specs.declared.Ranged.{Ranged}
 use Rattle.answers.specs.declared.Ranged.the-variants.{Listed, Refused}
-use Rattle.range.specs.Range.{listedBy, stretchedOf, chosenRangeOf, rangeOf, outBy, keysFrom}
+use Rattle.range.specs.Range.{listedBy, stretchedOf, chosenRangeOf, rangeOf, outBy}
 use Rattle.range.proofs.Laws.{range-limits, range-low, range-high, range-backwards}
 use Rattle.range_laws.specs.Answers.{Asked, Fine, Right, listOf, Held, Long, Wrong, Answers, listed, refused-1, refused-2, refused-4, refused-9, refused-8}
 use Rattle.range_laws.proofs.Follows.{fine-true, true-fine}
@@ -97,8 +99,8 @@ module _ (σ : Store) (low high room a z : ℕ) (asked : Asked σ low high a z) 
   range-is =
       rw (
         true-limited σ (asked .limits),
-        lt-ltb low keyLimit (asked .low-key),
-        lt-ltb high keyLimit (asked .high-key),
+        true-key low (asked .low-key),
+        true-key high (asked .high-key),
         le-leb low high (asked .forwards),
         chosen-low,
         chosen-high,
@@ -114,32 +116,32 @@ answers σ low high room =
     either (limitedOf σ)
     (λ t.
     let l : Limits σ = limited-true σ t in
-    either (ltb low keyLimit)
-    (λ u. either (ltb high keyLimit)
+    either (isKey low)
+    (λ u. either (isKey high)
     (λ v. either (leb low high)
     (λ w.
     let q : Asked σ low high (chosenOf (σ .table) (σ .s) low) (chosenOf (σ .table) (σ .s) high) =
     record {
       limits = l;
-      low-key = ltb-true low keyLimit u;
-      high-key = ltb-true high keyLimit v;
+      low-key = key-true low u;
+      high-key = key-true high v;
       forwards = leb-true low high w;
       from = chosen-is (σ .table) low (σ .s) (l .s-least);
       to = chosen-is (σ .table) high (σ .s) (l .s-least);
     } in
     rw (range-is σ low high room _ _ q) (found-answers σ low high room _ _ q (lowest σ low high room _ _ q) (scanned-all σ low high room _ _ q)))
-    (λ w. rw (← range-backwards σ low high room refl t refl u refl v (leb-false low high w)) (refused-4 l (ltb-true low keyLimit u) (ltb-true high keyLimit v) (leb-false low high w))))
-    (λ v. rw (← range-high σ low high room refl t refl u refl v) (refused-2 l (inr (ltb-false high keyLimit v)))))
-    (λ u. rw (← range-low σ low high room refl t refl u) (refused-2 l (inl (ltb-false low keyLimit u)))))
+    (λ w. rw (← range-backwards σ low high room refl t refl u refl v (leb-false low high w)) (refused-4 l (key-true low u) (key-true high v) (leb-false low high w))))
+    (λ v. rw (← range-high σ low high room refl t refl u refl v) (refused-2 l (inr (key-false high v)))))
+    (λ u. rw (← range-low σ low high room refl t refl u) (refused-2 l (inl (key-false low u)))))
     (λ t. rw (← range-limits σ low high room refl t) (refused-1 (λ l. clash (sym (true-limited σ l) ∙ t))))
 
 -- ---- and nothing else does
 
-large : (σ : Store) (low high room : ℕ) → Limits σ → (keyLimit ≤ low) ⊎ (keyLimit ≤ high) → Refused (LargeKey (record { 0 = 0 })) ≡ rangeOf σ low high room
+large : (σ : Store) (low high room : ℕ) → Limits σ → (NoKey low) ⊎ (NoKey high) → Refused (LargeKey (record { 0 = 0 })) ≡ rangeOf σ low high room
 large σ low high room l h =
-    either (ltb low keyLimit)
+    either (isKey low)
     (λ u. range-high σ low high room refl (true-limited σ l) refl u refl
-    (le-ltb high keyLimit (⊎-elim (λ p. absurd (omega (arith, p, ltb-true low keyLimit u))) (λ p. p) h)))
+    (false-key high (⊎-elim (λ p. absurd (omega (arith, p, key-true low u))) (λ p. p) h)))
     (λ u. range-low σ low high room refl (true-limited σ l) refl u)
 
 module _ (σ : Store) (low high room : ℕ) where
@@ -175,7 +177,7 @@ only σ low high room r (listed w) = held-is σ low high room w
 only σ low high room r (refused-1 w) = either (limitedOf σ) (λ t. absurd (w (limited-true σ t))) (λ t. range-limits σ low high room refl t)
 only σ low high room r (refused-2 l h) = large σ low high room l h
 only σ low high room r (refused-4 l p q h) =
-    range-backwards σ low high room refl (true-limited σ l) refl (lt-ltb low keyLimit p) refl (lt-ltb high keyLimit q) h
+    range-backwards σ low high room refl (true-limited σ l) refl (true-key low p) refl (true-key high q) h
 only σ low high room r (refused-9 w) = wrong-is σ low high room w
 only σ low high room r (refused-8 w) = long-is σ low high room w
 

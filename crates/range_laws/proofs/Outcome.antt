@@ -9,13 +9,13 @@ use Rattle.answers.specs.declared.Ranged.{Ranged}
 use Rattle.answers.specs.declared.Ranged.the-variants.{Refused}
 use Rattle.range.proofs.range.Reads as range
 
--- the out slice is the tenth parameter
+-- the out slice is the seventh parameter
 pub refused-unchanged : (κs : Lfts 4) (a : _) (q : Refusal) (x : _) → range.Post κs a (Refused q) x →
-    now (x .1 .1 .1 .1 .1 .1 .1 .1 .1 .0) ≡ now (a .1 .1 .1 .1 .1 .1 .1 .1 .1 .0)
+    now (x .1 .1 .1 .1 .1 .1 .0) ≡ now (a .1 .1 .1 .1 .1 .1 .0)
 refused-unchanged κs a q x p = p .1
 
 pub one-outcome : (κs : Lfts 4) (a : _) (r r′ : Ranged) (x x′ : _) → range.Post κs a r x → range.Post κs a r′ x′ →
-    (r ≡ r′) × (now (x .1 .1 .1 .1 .1 .1 .1 .1 .1 .0) ≡ now (x′ .1 .1 .1 .1 .1 .1 .1 .1 .1 .0))
+    (r ≡ r′) × (now (x .1 .1 .1 .1 .1 .1 .0) ≡ now (x′ .1 .1 .1 .1 .1 .1 .0))
 one-outcome κs a r r′ x x′ p q =
     let e : r ≡ r′ = p .0 ∙ sym (q .0) in
     (e, rw e at (p .1) ∙ sym (q .1))

@@ -7,29 +7,30 @@ use Prim.Native.Nat.{ℕ, suc, _+_, _-_, _≤_, _<_}
 use native.Mathlib.Omega.{arith}
 use lib.ListN.{length}
 use lib.Seq.{drop-at}
-use Rattle.lists.specs.Rising.{Up}
 use Rattle.lists.specs.Between.{between}
-use Rattle.lists.proofs.Rising.{up-left, up-drop, up-rises}
-use Rattle.terms.specs.Limits.{keyLimit}
+use Rattle.lists.proofs.Rising.{up-left, up-drop}
+use Rattle.terms.specs.Keys.{IsKey, RisingKeys}
 use Rattle.terms.specs.declared.Refusal.the-variants.{OutRoom}
+use Rattle.terms.proofs.Keys.{rising-lt}
 use Rattle.table.specs.Store.{Store}
-use Rattle.table.specs.Chosen.{chosenOf}
+use Rattle.choose.specs.Chosen.{chosenOf}
+use Rattle.choose.specs.Stretch.{keysFrom}
 use Rattle.table.specs.Reads.{stretchOf, reads}
-use Rattle.table.proofs.Chosen.{chosen-is}
+use Rattle.choose.proofs.Chosen.{chosen-is}
 use Rattle.judge.specs.Rules.{Accepted}
 use Rattle.judge_laws.proofs.Segments.{held-key, reads-rise}
-use Rattle.stretch.proofs.Stretch.{stretch-split, range-is}
+use Rattle.theory_stretch.proofs.Stretch.{stretch-split, range-is}
 use Rattle.answers.specs.declared.Ranged.the-variants.{Listed, Refused}
-use Rattle.range.specs.Range.{rangeOf, keysFrom}
+use Rattle.range.specs.Range.{rangeOf}
 use Rattle.range_laws.specs.Answers.{Asked, Fine, Right}
 use Rattle.range_laws.proofs.Meaning.{held-listed, long-eight}
 
-up-right : (lo hi : ℕ) (xs ys : List ℕ) → Up lo hi (xs ++ ys) → Up lo hi ys
-up-right lo hi xs ys u = rw (drop-at xs ys (length xs) refl) at (up-drop lo hi (xs ++ ys) (length xs) u)
+rising-right : (xs ys : List ℕ) → RisingKeys (xs ++ ys) → RisingKeys ys
+rising-right xs ys u = rw (drop-at xs ys (length xs) refl) at (up-drop 0 _ (xs ++ ys) (length xs) u)
 
 module _ (σ : Store) (ok : Accepted σ) where
   -- the reads of neighbouring segments are a part of all the reads, which rise
-  part-up : (a c : ℕ) → a + c ≤ σ .s → Up 0 keyLimit (stretchOf σ a c)
+  part-up : (a c : ℕ) → a + c ≤ σ .s → RisingKeys (stretchOf σ a c)
   part-up a c h =
       let last : ℕ = σ .s - (a + c) in
       let s : σ .s ≡ a + (c + last) = omega arith in
@@ -37,18 +38,18 @@ module _ (σ : Store) (ok : Accepted σ) where
       let whole : reads σ ≡ stretchOf σ 0 a ++ (stretchOf σ a c ++ stretchOf σ (a + c) last)
       = ap (λ (m : ℕ). stretchOf σ 0 m) s ∙ stretch-split σ a (c + last) 0 ∙ ap (λ (m : ℕ). stretchOf σ 0 a ++ stretchOf σ m (c + last)) f
       ∙ ap (λ (l : List ℕ). stretchOf σ 0 a ++ l) (stretch-split σ c last a) in
-      let u : Up 0 keyLimit (stretchOf σ 0 a ++ (stretchOf σ a c ++ stretchOf σ (a + c) last)) = rw whole at (reads-rise σ ok) in
-      up-left 0 keyLimit (stretchOf σ a c) (stretchOf σ (a + c) last) (up-right 0 keyLimit (stretchOf σ 0 a) (stretchOf σ a c ++ stretchOf σ (a + c) last) u)
+      let u : RisingKeys (stretchOf σ 0 a ++ (stretchOf σ a c ++ stretchOf σ (a + c) last)) = rw whole at (reads-rise σ ok) in
+      up-left 0 _ (stretchOf σ a c) (stretchOf σ (a + c) last) (rising-right (stretchOf σ 0 a) (stretchOf σ a c ++ stretchOf σ (a + c) last) u)
 
   pub every-fine : (a i : ℕ) → a ≤ i → i < σ .s → Fine σ a i
   every-fine a i from inside =
       record {
         sound = ok .rules i inside .sound;
         small = λ k j. held-key σ ok i inside k j;
-        above = λ p h l. up-rises 0 keyLimit (stretchOf σ a (suc i - a)) (part-up a (suc i - a) (omega arith)) p (suc p) (omega arith) l;
+        above = λ p h l. rising-lt (stretchOf σ a (suc i - a)) (part-up a (suc i - a) (omega arith)) p (suc p) (omega arith) l;
       }
 
-  module _ (low high : ℕ) (low-key : low < keyLimit) (high-key : high < keyLimit) (forwards : low ≤ high) where
+  module _ (low high : ℕ) (low-key : IsKey low) (high-key : IsKey high) (forwards : low ≤ high) where
     asked : Asked σ low high (chosenOf (σ .table) (σ .s) low) (chosenOf (σ .table) (σ .s) high)
     asked =
         record {

@@ -6,13 +6,13 @@ use Prim.Native.Nat.{ℕ, suc, _-_, _≤_, _<_}
 use lib.ListN.{length, getD}
 use Rattle.lists.specs.Rising.{In}
 use Rattle.lists.specs.Between.{between}
-use Rattle.terms.specs.Limits.{keyLimit}
+use Rattle.terms.specs.Keys.{IsKey, NoKey}
 use Rattle.terms.specs.declared.Refusal.the-variants.{Limits as OutOfLimits, LargeKey, Backwards, OutRoom, StoreWrong}
 use Rattle.table.specs.Store.{Store}
 use Rattle.table.specs.Limits.{Limits}
 use Rattle.table.specs.Entries.{entryIn}
 use Rattle.table.specs.Damaged.{Sound}
-use Rattle.table.specs.Chosen.{Chosen}
+use Rattle.choose.specs.Chosen.{Chosen}
 use Rattle.table.specs.Reads.{mergedIn, stretchOf}
 use Rattle.answers.specs.declared.Ranged.{Ranged}
 use Rattle.answers.specs.declared.Ranged.the-variants.{Listed, Refused}
@@ -20,8 +20,8 @@ use Rattle.answers.specs.declared.Ranged.the-variants.{Listed, Refused}
 -- none of the refusals 1, 2 and 4 is due, and "the stretch runs from the segment chosen for low to that chosen for high": from a to z
 pub record Asked (σ : Store) (low high a z : ℕ) : Type 0 where
   pub limits : Limits σ
-  pub low-key : low < keyLimit
-  pub high-key : high < keyLimit
+  pub low-key : IsKey low
+  pub high-key : IsKey high
   pub forwards : low ≤ high
   pub from : Chosen (σ .table) (σ .s) low a
   pub to : Chosen (σ .table) (σ .s) high z
@@ -30,7 +30,7 @@ pub record Asked (σ : Store) (low high a z : ℕ) : Type 0 where
 -- stretch": of the joined merged lists of the segments from a to i, its keys are those from the length of the lists before it on
 pub record Fine (σ : Store) (a i : ℕ) : Type 0 where
   pub sound : Sound (σ .b) (σ .n) (entryIn σ i)
-  pub small : (k : ℕ) → In k (mergedIn σ i) → k < keyLimit
+  pub small : (k : ℕ) → In k (mergedIn σ i) → IsKey k
   pub above : (p : ℕ) → length (stretchOf σ a (i - a)) ≤ suc p → suc p < length (stretchOf σ a (suc i - a)) →
       getD (stretchOf σ a (suc i - a)) p 0 < getD (stretchOf σ a (suc i - a)) (suc p) 0
 
@@ -72,7 +72,7 @@ pub record Wrong (σ : Store) (low high i : ℕ) : Type 0 where
 pub data Answers (σ : Store) (low high room : ℕ) : Ranged → Type 0 where
   listed : {m : ℕ} → Held σ low high room m → Answers σ low high room (Listed m)
   refused-1 : (Limits σ → ⊥) → Answers σ low high room (Refused OutOfLimits)
-  refused-2 : Limits σ → (keyLimit ≤ low) ⊎ (keyLimit ≤ high) → Answers σ low high room (Refused (LargeKey (record { 0 = 0 })))
-  refused-4 : Limits σ → low < keyLimit → high < keyLimit → high < low → Answers σ low high room (Refused Backwards)
+  refused-2 : Limits σ → (NoKey low) ⊎ (NoKey high) → Answers σ low high room (Refused (LargeKey (record { 0 = 0 })))
+  refused-4 : Limits σ → IsKey low → IsKey high → high < low → Answers σ low high room (Refused Backwards)
   refused-9 : {i : ℕ} → Wrong σ low high i → Answers σ low high room (Refused (StoreWrong i))
   refused-8 : Long σ low high room → Answers σ low high room (Refused OutRoom)

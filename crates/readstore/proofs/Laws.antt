@@ -4,6 +4,7 @@ use mathlib.Core.Path.{_≡_, ap, _∙_}
 use mathlib.Core.List.{List}
 use Prim.Native.Nat.{ℕ}
 use lib.ListN.{length}
+use Rattle.terms.specs.declared.Sizes.{Sizes}
 use Rattle.table.specs.Store.{storeOf}
 use Rattle.answers.specs.declared.Built.{Built}
 use Rattle.build.specs.Build.{builtOf, tableBy}
@@ -12,7 +13,8 @@ use Rattle.judge.specs.Check.{checkOf}
 use Rattle.answers.specs.declared.Looked.{Looked}
 use Rattle.lookup.specs.Lookup.{lookupOf}
 use Rattle.answers.specs.declared.Ranged.{Ranged}
-use Rattle.range.specs.Range.{rangeOf, outBy as rangedOut, keysFrom}
+use Rattle.choose.specs.Stretch.{keysFrom}
+use Rattle.range.specs.Range.{rangeOf, outBy as rangedOut}
 use Rattle.answers.specs.declared.Inserted.{Inserted}
 use Rattle.insert.specs.Insert.{insertOf}
 use Rattle.insert.specs.Cells.{keysBy as insertedKeys, tableBy as insertedTable, buffersBy as insertedBuffers}
@@ -20,7 +22,7 @@ use Rattle.answers.specs.declared.Written.{Written}
 use Rattle.image_write.specs.Writing.{writeOf, outBy}
 use Rattle.answers.specs.declared.Loaded.{Loaded}
 use Rattle.image_read.specs.Loading.{loadOf, keysBy, tableBy as loadedTable, buffersBy}
-use Rattle.numbers.specs.Numbers.{builtNumbers, checkedNumbers, lookedNumbers, rangedNumbers, insertedNumbers, writtenNumbers, loadedNumbers}
+use Rattle.readstore_numbers.specs.Numbers.{builtNumbers, checkedNumbers, lookedNumbers, rangedNumbers, insertedNumbers, writtenNumbers, loadedNumbers}
 
 -- the caller's numbers are the call's
 
@@ -33,43 +35,43 @@ module _ {e b n f c m : ℕ} (keys table buffers : List ℕ) (pe : f ≡ e) (pb 
 
 pub ruleset build-calls = (build-answered, build-written)
 
-module _ {e b n s f c m t : ℕ} (keys table buffers : List ℕ) (pe : f ≡ e) (pb : c ≡ b) (pn : m ≡ n) (ps : t ≡ s) where
-  pub check-answered : {a : Checked} {l : List ℕ} → a ≡ checkOf (storeOf f c m t keys table buffers) → l ≡ checkedNumbers a → l ≡ checkedNumbers (checkOf (storeOf e b n s keys table buffers))
-  check-answered call p = p ∙ ap checkedNumbers (rw (← pe, ← pb, ← pn, ← ps) call)
+module _ (z w : Sizes) (keys table buffers : List ℕ) (is : w ≡ z) where
+  pub check-answered : {a : Checked} {l : List ℕ} → a ≡ checkOf (storeOf w keys table buffers) → l ≡ checkedNumbers a → l ≡ checkedNumbers (checkOf (storeOf z keys table buffers))
+  check-answered call p = p ∙ ap checkedNumbers (rw (← is) call)
 
-  pub lookup-answered : (k : ℕ) {a : Looked} {l : List ℕ} → a ≡ lookupOf (storeOf f c m t keys table buffers) k → l ≡ lookedNumbers a → l ≡ lookedNumbers (lookupOf (storeOf e b n s keys table buffers) k)
-  lookup-answered k call p = p ∙ ap lookedNumbers (rw (← pe, ← pb, ← pn, ← ps) call)
+  pub lookup-answered : (k : ℕ) {a : Looked} {l : List ℕ} → a ≡ lookupOf (storeOf w keys table buffers) k → l ≡ lookedNumbers a → l ≡ lookedNumbers (lookupOf (storeOf z keys table buffers) k)
+  lookup-answered k call p = p ∙ ap lookedNumbers (rw (← is) call)
 
-  module _ (low high : ℕ) (out : List ℕ) {a : Ranged} (call : a ≡ rangeOf (storeOf f c m t keys table buffers) low high (length out)) where
-    pub range-answered : {l : List ℕ} → l ≡ rangedNumbers a → l ≡ rangedNumbers (rangeOf (storeOf e b n s keys table buffers) low high (length out))
-    range-answered p = p ∙ ap rangedNumbers (rw (← pe, ← pb, ← pn, ← ps) call)
+  module _ (low high : ℕ) (out : List ℕ) {a : Ranged} (call : a ≡ rangeOf (storeOf w keys table buffers) low high (length out)) where
+    pub range-answered : {l : List ℕ} → l ≡ rangedNumbers a → l ≡ rangedNumbers (rangeOf (storeOf z keys table buffers) low high (length out))
+    range-answered p = p ∙ ap rangedNumbers (rw (← is) call)
 
-    pub range-written : {after : List ℕ} → after ≡ rangedOut (keysFrom (storeOf f c m t keys table buffers) low high) a out
-        → after ≡ rangedOut (keysFrom (storeOf e b n s keys table buffers) low high) (rangeOf (storeOf e b n s keys table buffers) low high (length out)) out
-    range-written p = rw (← pe, ← pb, ← pn, ← ps) (p ∙ ap (λ (x : Ranged). rangedOut (keysFrom (storeOf f c m t keys table buffers) low high) x out) call)
+    pub range-written : {after : List ℕ} → after ≡ rangedOut (keysFrom (storeOf w keys table buffers) low high) a out
+        → after ≡ rangedOut (keysFrom (storeOf z keys table buffers) low high) (rangeOf (storeOf z keys table buffers) low high (length out)) out
+    range-written p = rw (← is) (p ∙ ap (λ (x : Ranged). rangedOut (keysFrom (storeOf w keys table buffers) low high) x out) call)
 
-  module _ (k : ℕ) {a : Inserted} (call : a ≡ insertOf (storeOf f c m t keys table buffers) k) where
-    pub insert-answered : {l : List ℕ} → l ≡ insertedNumbers a → l ≡ insertedNumbers (insertOf (storeOf e b n s keys table buffers) k)
-    insert-answered p = p ∙ ap insertedNumbers (rw (← pe, ← pb, ← pn, ← ps) call)
+  module _ (k : ℕ) {a : Inserted} (call : a ≡ insertOf (storeOf w keys table buffers) k) where
+    pub insert-answered : {l : List ℕ} → l ≡ insertedNumbers a → l ≡ insertedNumbers (insertOf (storeOf z keys table buffers) k)
+    insert-answered p = p ∙ ap insertedNumbers (rw (← is) call)
 
-    pub insert-keys : {after : List ℕ} → after ≡ insertedKeys a (storeOf f c m t keys table buffers) k
-        → after ≡ insertedKeys (insertOf (storeOf e b n s keys table buffers) k) (storeOf e b n s keys table buffers) k
-    insert-keys p = rw (← pe, ← pb, ← pn, ← ps) (p ∙ ap (λ (x : Inserted). insertedKeys x (storeOf f c m t keys table buffers) k) call)
+    pub insert-keys : {after : List ℕ} → after ≡ insertedKeys a (storeOf w keys table buffers) k
+        → after ≡ insertedKeys (insertOf (storeOf z keys table buffers) k) (storeOf z keys table buffers) k
+    insert-keys p = rw (← is) (p ∙ ap (λ (x : Inserted). insertedKeys x (storeOf w keys table buffers) k) call)
 
-    pub insert-table : {after : List ℕ} → after ≡ insertedTable a (storeOf f c m t keys table buffers) k
-        → after ≡ insertedTable (insertOf (storeOf e b n s keys table buffers) k) (storeOf e b n s keys table buffers) k
-    insert-table p = rw (← pe, ← pb, ← pn, ← ps) (p ∙ ap (λ (x : Inserted). insertedTable x (storeOf f c m t keys table buffers) k) call)
+    pub insert-table : {after : List ℕ} → after ≡ insertedTable a (storeOf w keys table buffers) k
+        → after ≡ insertedTable (insertOf (storeOf z keys table buffers) k) (storeOf z keys table buffers) k
+    insert-table p = rw (← is) (p ∙ ap (λ (x : Inserted). insertedTable x (storeOf w keys table buffers) k) call)
 
-    pub insert-buffers : {after : List ℕ} → after ≡ insertedBuffers a (storeOf f c m t keys table buffers) k
-        → after ≡ insertedBuffers (insertOf (storeOf e b n s keys table buffers) k) (storeOf e b n s keys table buffers) k
-    insert-buffers p = rw (← pe, ← pb, ← pn, ← ps) (p ∙ ap (λ (x : Inserted). insertedBuffers x (storeOf f c m t keys table buffers) k) call)
+    pub insert-buffers : {after : List ℕ} → after ≡ insertedBuffers a (storeOf w keys table buffers) k
+        → after ≡ insertedBuffers (insertOf (storeOf z keys table buffers) k) (storeOf z keys table buffers) k
+    insert-buffers p = rw (← is) (p ∙ ap (λ (x : Inserted). insertedBuffers x (storeOf w keys table buffers) k) call)
 
-  module _ (out : List ℕ) {a : Written} (call : a ≡ writeOf (storeOf f c m t keys table buffers) (length out)) where
-    pub write-answered : {l : List ℕ} → l ≡ writtenNumbers a → l ≡ writtenNumbers (writeOf (storeOf e b n s keys table buffers) (length out))
-    write-answered p = p ∙ ap writtenNumbers (rw (← pe, ← pb, ← pn, ← ps) call)
+  module _ (out : List ℕ) {a : Written} (call : a ≡ writeOf (storeOf w keys table buffers) (length out)) where
+    pub write-answered : {l : List ℕ} → l ≡ writtenNumbers a → l ≡ writtenNumbers (writeOf (storeOf z keys table buffers) (length out))
+    write-answered p = p ∙ ap writtenNumbers (rw (← is) call)
 
-    pub write-written : {after : List ℕ} → after ≡ outBy a (storeOf f c m t keys table buffers) out → after ≡ outBy (writeOf (storeOf e b n s keys table buffers) (length out)) (storeOf e b n s keys table buffers) out
-    write-written p = rw (← pe, ← pb, ← pn, ← ps) (p ∙ ap (λ (x : Written). outBy x (storeOf f c m t keys table buffers) out) call)
+    pub write-written : {after : List ℕ} → after ≡ outBy a (storeOf w keys table buffers) out → after ≡ outBy (writeOf (storeOf z keys table buffers) (length out)) (storeOf z keys table buffers) out
+    write-written p = rw (← is) (p ∙ ap (λ (x : Written). outBy x (storeOf w keys table buffers) out) call)
 
 pub ruleset insert-calls = (insert-answered, insert-keys, insert-table, insert-buffers)
 

@@ -1,29 +1,37 @@
 // The public calls for C and Rust: numbers and slices go in, and each answer comes back as eight numbers that the caller lends:
 // [0] the refusal's number, 0 if accepted; [1] its place; [2] a kind; [3].. values; unused ones 0.
-use numbers::built_numbers;
-use numbers::checked_numbers;
-use numbers::inserted_numbers;
-use numbers::loaded_numbers;
-use numbers::looked_numbers;
-use numbers::ranged_numbers;
-use numbers::written_numbers;
+use readstore_numbers::built_numbers;
+use readstore_numbers::checked_numbers;
+use readstore_numbers::inserted_numbers;
+use readstore_numbers::loaded_numbers;
+use readstore_numbers::looked_numbers;
+use readstore_numbers::ranged_numbers;
+use readstore_numbers::written_numbers;
+use terms::Sizes;
 ghost use mathlib.Core.Path.{_≡_};
 ghost use lib.ListN.{length};
+ghost use Rattle.terms.specs.Limits.{sizesOf};
 ghost use Rattle.table.specs.Store.{storeOf};
 ghost use Rattle.build.specs.Build.{builtOf, tableBy};
+ghost use Rattle.choose.specs.Stretch.{keysFrom};
 ghost use Rattle.judge.specs.Check.{checkOf};
 ghost use Rattle.lookup.specs.Lookup.{lookupOf};
-ghost use Rattle.range.specs.Range.{rangeOf, outBy as rangedOut, keysFrom};
+ghost use Rattle.range.specs.Range.{rangeOf, outBy as rangedOut};
 ghost use Rattle.insert.specs.Insert.{insertOf};
 ghost use Rattle.insert.specs.Cells.{keysBy as insertedKeys, tableBy as insertedTable, buffersBy as insertedBuffers};
 ghost use Rattle.image_write.specs.Writing.{writeOf, outBy};
 ghost use Rattle.image_read.specs.Loading.{loadOf, keysBy, tableBy as loadedTable, buffersBy};
-ghost use Rattle.numbers.specs.Numbers.{builtNumbers, checkedNumbers, lookedNumbers, rangedNumbers, insertedNumbers, writtenNumbers, loadedNumbers};
+ghost use Rattle.readstore_numbers.specs.Numbers.{builtNumbers, checkedNumbers, lookedNumbers, rangedNumbers, insertedNumbers, writtenNumbers, loadedNumbers};
 
-fn size(x: u64) -> usize
-    ensures { λ r. ⌜ r ≡ x ⌝ }
+// The four numbers of a store together.
+fn sizes_of(e: u64, b: u64, n: u64, s: u64) -> Sizes
+    ensures { λ r. ⌜ r ≡ sizesOf e b n s ⌝ }
 {
-    x as usize
+    let e = terms::size(e);
+    let b = terms::size(b);
+    let n = terms::size(n);
+    let s = terms::size(s);
+    Sizes { e, b, n, s }
 }
 
 // The first n keys are cut with the bound e, and the entries written. [3] is s.
@@ -40,7 +48,14 @@ pub extern "C" fn readstore_build(
     ensures answered { λ _. ⌜ now (answer .exit) ≡ builtNumbers (builtOf e b n (now (keys .entry)) (now (table .entry)) (now (buffers .entry))) ⌝ }
     ensures written { λ _. ⌜ now (table .exit) ≡ tableBy (builtOf e b n (now (keys .entry)) (now (table .entry)) (now (buffers .entry))) e n (now (keys .entry)) (now (table .entry)) ⌝ }
 {
-    let a = build::build(size(e), size(b), size(n), keys, table, buffers);
+    let a = build::build(
+        terms::size(e),
+        terms::size(b),
+        terms::size(n),
+        keys,
+        table,
+        buffers,
+    );
     *answer = built_numbers(a);
 }
 
@@ -56,9 +71,10 @@ pub extern "C" fn readstore_check(
     s: u64,
     answer: &mut [u64; 8],
 )
-    ensures { λ _. ⌜ now (answer .exit) ≡ checkedNumbers (checkOf (storeOf e b n s (now (keys .entry)) (now (table .entry)) (now (buffers .entry)))) ⌝ }
+    ensures { λ _. ⌜ now (answer .exit) ≡ checkedNumbers (checkOf (storeOf (sizesOf e b n s) (now (keys .entry)) (now (table .entry)) (now (buffers .entry)))) ⌝ }
 {
-    let a = judge::check(size(e), size(b), size(n), size(s), keys, table, buffers);
+    let z = sizes_of(e, b, n, s);
+    let a = judge::check(z, keys, table, buffers);
     *answer = checked_numbers(a);
 }
 
@@ -75,9 +91,10 @@ pub extern "C" fn readstore_lookup(
     k: u64,
     answer: &mut [u64; 8],
 )
-    ensures { λ _. ⌜ now (answer .exit) ≡ lookedNumbers (lookupOf (storeOf e b n s (now (keys .entry)) (now (table .entry)) (now (buffers .entry))) k) ⌝ }
+    ensures { λ _. ⌜ now (answer .exit) ≡ lookedNumbers (lookupOf (storeOf (sizesOf e b n s) (now (keys .entry)) (now (table .entry)) (now (buffers .entry))) k) ⌝ }
 {
-    let a = lookup::lookup(size(e), size(b), size(n), size(s), keys, table, buffers, k);
+    let z = sizes_of(e, b, n, s);
+    let a = lookup::lookup(z, keys, table, buffers, k);
     *answer = looked_numbers(a);
 }
 
@@ -96,21 +113,11 @@ pub extern "C" fn readstore_range(
     out: &mut [u64],
     answer: &mut [u64; 8],
 )
-    ensures answered { λ _. ⌜ now (answer .exit) ≡ rangedNumbers (rangeOf (storeOf e b n s (now (keys .entry)) (now (table .entry)) (now (buffers .entry))) low high (length (now (out .entry)))) ⌝ }
-    ensures written { λ _. ⌜ now (out .exit) ≡ rangedOut (keysFrom (storeOf e b n s (now (keys .entry)) (now (table .entry)) (now (buffers .entry))) low high) (rangeOf (storeOf e b n s (now (keys .entry)) (now (table .entry)) (now (buffers .entry))) low high (length (now (out .entry)))) (now (out .entry)) ⌝ }
+    ensures answered { λ _. ⌜ now (answer .exit) ≡ rangedNumbers (rangeOf (storeOf (sizesOf e b n s) (now (keys .entry)) (now (table .entry)) (now (buffers .entry))) low high (length (now (out .entry)))) ⌝ }
+    ensures written { λ _. ⌜ now (out .exit) ≡ rangedOut (keysFrom (storeOf (sizesOf e b n s) (now (keys .entry)) (now (table .entry)) (now (buffers .entry))) low high) (rangeOf (storeOf (sizesOf e b n s) (now (keys .entry)) (now (table .entry)) (now (buffers .entry))) low high (length (now (out .entry)))) (now (out .entry)) ⌝ }
 {
-    let a = range::range(
-        size(e),
-        size(b),
-        size(n),
-        size(s),
-        keys,
-        table,
-        buffers,
-        low,
-        high,
-        out,
-    );
+    let z = sizes_of(e, b, n, s);
+    let a = range::range(z, keys, table, buffers, low, high, out);
     *answer = ranged_numbers(a);
 }
 
@@ -127,12 +134,13 @@ pub extern "C" fn readstore_insert(
     k: u64,
     answer: &mut [u64; 8],
 )
-    ensures answered { λ _. ⌜ now (answer .exit) ≡ insertedNumbers (insertOf (storeOf e b n s (now (keys .entry)) (now (table .entry)) (now (buffers .entry))) k) ⌝ }
-    ensures keys { λ _. ⌜ now (keys .exit) ≡ insertedKeys (insertOf (storeOf e b n s (now (keys .entry)) (now (table .entry)) (now (buffers .entry))) k) (storeOf e b n s (now (keys .entry)) (now (table .entry)) (now (buffers .entry))) k ⌝ }
-    ensures table { λ _. ⌜ now (table .exit) ≡ insertedTable (insertOf (storeOf e b n s (now (keys .entry)) (now (table .entry)) (now (buffers .entry))) k) (storeOf e b n s (now (keys .entry)) (now (table .entry)) (now (buffers .entry))) k ⌝ }
-    ensures buffers { λ _. ⌜ now (buffers .exit) ≡ insertedBuffers (insertOf (storeOf e b n s (now (keys .entry)) (now (table .entry)) (now (buffers .entry))) k) (storeOf e b n s (now (keys .entry)) (now (table .entry)) (now (buffers .entry))) k ⌝ }
+    ensures answered { λ _. ⌜ now (answer .exit) ≡ insertedNumbers (insertOf (storeOf (sizesOf e b n s) (now (keys .entry)) (now (table .entry)) (now (buffers .entry))) k) ⌝ }
+    ensures keys { λ _. ⌜ now (keys .exit) ≡ insertedKeys (insertOf (storeOf (sizesOf e b n s) (now (keys .entry)) (now (table .entry)) (now (buffers .entry))) k) (storeOf (sizesOf e b n s) (now (keys .entry)) (now (table .entry)) (now (buffers .entry))) k ⌝ }
+    ensures table { λ _. ⌜ now (table .exit) ≡ insertedTable (insertOf (storeOf (sizesOf e b n s) (now (keys .entry)) (now (table .entry)) (now (buffers .entry))) k) (storeOf (sizesOf e b n s) (now (keys .entry)) (now (table .entry)) (now (buffers .entry))) k ⌝ }
+    ensures buffers { λ _. ⌜ now (buffers .exit) ≡ insertedBuffers (insertOf (storeOf (sizesOf e b n s) (now (keys .entry)) (now (table .entry)) (now (buffers .entry))) k) (storeOf (sizesOf e b n s) (now (keys .entry)) (now (table .entry)) (now (buffers .entry))) k ⌝ }
 {
-    let a = insert::insert(size(e), size(b), size(n), size(s), keys, table, buffers, k);
+    let z = sizes_of(e, b, n, s);
+    let a = insert::insert(z, keys, table, buffers, k);
     *answer = inserted_numbers(a);
 }
 
@@ -149,19 +157,11 @@ pub extern "C" fn readstore_image_write(
     out: &mut [u8],
     answer: &mut [u64; 8],
 )
-    ensures answered { λ _. ⌜ now (answer .exit) ≡ writtenNumbers (writeOf (storeOf e b n s (now (keys .entry)) (now (table .entry)) (now (buffers .entry))) (length (now (out .entry)))) ⌝ }
-    ensures written { λ _. ⌜ now (out .exit) ≡ outBy (writeOf (storeOf e b n s (now (keys .entry)) (now (table .entry)) (now (buffers .entry))) (length (now (out .entry)))) (storeOf e b n s (now (keys .entry)) (now (table .entry)) (now (buffers .entry))) (now (out .entry)) ⌝ }
+    ensures answered { λ _. ⌜ now (answer .exit) ≡ writtenNumbers (writeOf (storeOf (sizesOf e b n s) (now (keys .entry)) (now (table .entry)) (now (buffers .entry))) (length (now (out .entry)))) ⌝ }
+    ensures written { λ _. ⌜ now (out .exit) ≡ outBy (writeOf (storeOf (sizesOf e b n s) (now (keys .entry)) (now (table .entry)) (now (buffers .entry))) (length (now (out .entry)))) (storeOf (sizesOf e b n s) (now (keys .entry)) (now (table .entry)) (now (buffers .entry))) (now (out .entry)) ⌝ }
 {
-    let a = image_write::write_image(
-        size(e),
-        size(b),
-        size(n),
-        size(s),
-        keys,
-        table,
-        buffers,
-        out,
-    );
+    let z = sizes_of(e, b, n, s);
+    let a = image_write::write_image(z, keys, table, buffers, out);
     *answer = written_numbers(a);
 }
 

@@ -1,8 +1,8 @@
 // The words of document 01: a key, a position, an entry, the limits, and the refusals.
 ghost use mathlib.Core.Path.{_≡_};
 ghost use mathlib.Core.Bool.{Bool};
-ghost use lib.Dec.{ltb};
-ghost use Rattle.terms.specs.Limits.{keyLimit};
+ghost use Rattle.terms.specs.Limits.{inUseOf};
+ghost use Rattle.terms.specs.Keys.{isKey};
 ghost use Rattle.terms.specs.Refusals.{numberOf, placeOf};
 
 // A key is below this: 2^44.
@@ -35,9 +35,31 @@ pub struct Entry {
     pub held: usize,
 }
 
+// The four numbers of a store: the error bound, the buffer size, how many keys stand in runs, and how many segments.
+pub struct Sizes {
+    pub e: usize,
+    pub b: usize,
+    pub n: usize,
+    pub s: usize,
+}
+
+// A cell as a count or a place.
+pub fn size(x: u64) -> usize
+    ensures { λ r. ⌜ r ≡ x ⌝ }
+{
+    x as usize
+}
+
+// The bound that the cut, the window and the check use.
+pub fn in_use(z: Sizes) -> usize
+    ensures { λ r. ⌜ r ≡ inUseOf z ⌝ }
+{
+    z.e
+}
+
 // Whether a number may be a key.
 pub fn is_key(x: u64) -> bool
-    ensures { λ (r : Bool). ⌜ r ≡ ltb x keyLimit ⌝ }
+    ensures { λ (r : Bool). ⌜ r ≡ isKey x ⌝ }
 {
     x < KEY_LIMIT
 }

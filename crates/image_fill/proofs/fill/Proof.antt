@@ -1,5 +1,5 @@
 use borrow.Author.Needs.{needs}
-use Rattle.image_fill.proofs.Laws.{image-cases, table-filled, slots-filled}
+use Rattle.image_fill.proofs.Laws.{image-cases, run-filled, table-filled, slots-filled}
 use Rattle.image_fill.proofs.fill.Statement.{statement}
 use Rattle.image_fill.proofs.fill.Tie as tie
 
@@ -12,4 +12,4 @@ fill-spec =
     (λ c. search (image-cases, needs))  -- same-length
     (λ c. search (image-cases, needs))  -- same-length-2
     (λ c. search (image-cases, needs))  -- same-length-3
-    (λ c. (search needs, (search (table-filled, needs), search (slots-filled, needs)))))
+    (λ c. (search (run-filled, needs), (search (table-filled, needs), search (slots-filled, needs)))))

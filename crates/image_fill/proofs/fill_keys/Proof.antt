@@ -1,6 +1,8 @@
 use borrow.Author.Needs.{needs}
 use Rattle.lists.specs.Over.{Writing}
-use Rattle.image_fill.specs.Filling.{keysAt}
+use Rattle.image_records.specs.Records.{manyAt}
+use Rattle.image_records.specs.First.{first}
+use Rattle.image_records.specs.Stores.{firsts}
 use mathlib.Core.Path.{_≡_}
 use Prim.Native.Nat.{_+_, _*_}
 use Rattle.image_fill.proofs.Laws.{fill-cases}
@@ -8,7 +10,7 @@ use Rattle.image_fill.proofs.fill_keys.Statement.{statement}
 use Rattle.image_fill.proofs.fill_keys.Tie as tie
 
 abbrev Inv-loop : tie.InvT-loop
-Inv-loop bytes at cells₀ to count p₀ i₀ left₀ cells p i left = (p + 7 * left ≡ at + 7 * count) × (i + left ≡ to + count) × Writing cells₀ to (keysAt bytes count at) cells i (keysAt bytes left p)
+Inv-loop bytes at cells₀ to count p₀ i₀ left₀ cells p i left = (p + 7 * left ≡ at + 7 * count) × (i + left ≡ to + count) × Writing cells₀ to (firsts (manyAt (first .key .widths) bytes count at)) cells i (firsts (manyAt (first .key .widths) bytes left p))
 
 abbrev μ-loop : tie.MeasureT-loop
 μ-loop bytes at cells₀ to count p₀ i₀ left₀ cells p i left = left

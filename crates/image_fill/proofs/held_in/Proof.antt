@@ -9,4 +9,5 @@ held-in-spec =
     (tie.spec
     (λ c. search (held-cases, needs))  -- add-get
     (λ c κs. search (held-cases, needs))  -- get-requires
+    (λ c κs. search (held-cases, needs))  -- size-requires
     (λ c. search (held-cases, needs)))

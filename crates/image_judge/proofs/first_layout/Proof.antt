@@ -1,5 +1,5 @@
 use mathlib.Core.Path.{refl}
-use Rattle.records.specs.Records.{total}
+use Rattle.image_records.specs.Records.{total}
 use Rattle.image_judge.proofs.first_layout.Statement.{statement}
 use Rattle.image_judge.proofs.first_layout.Tie as tie
 

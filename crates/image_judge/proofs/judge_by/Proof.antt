@@ -8,10 +8,7 @@ judge-by-spec =
     tie.close
     (tie.spec
     (λ c κs. search (read-cases, needs))  -- stands-requires
-    (λ c κs. search (read-cases, needs))  -- two-requires
-    (λ c κs. search (read-cases, needs))  -- two-requires-2
-    (λ c κs. search (read-cases, needs))  -- two-requires-3
-    (λ c κs. search (read-cases, needs))  -- two-requires-4
+    (λ c κs. search (read-cases, needs))  -- head-sizes-requires
     (λ c κs. search (read-cases, needs))  -- headed-requires
     (λ c. search (read-cases, needs))  -- returns
     (λ c. search (read-cases, needs)))

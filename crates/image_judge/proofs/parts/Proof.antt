@@ -1,5 +1,5 @@
 use borrow.Author.Needs.{needs}
-use Rattle.records.specs.Images.{partsOf}
+use Rattle.image_records.specs.Images.{partsOf}
 use Rattle.image_judge.specs.Asks.{Readable}
 use mathlib.Core.Path.{_≡_}
 use Rattle.image_judge.proofs.Laws.{parts-cases}

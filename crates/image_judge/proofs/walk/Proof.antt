@@ -1,5 +1,5 @@
 use borrow.Author.Needs.{needs}
-use Rattle.records.specs.Records.{walkOf}
+use Rattle.image_records.specs.Records.{walkOf}
 use Rattle.image_judge.specs.Asks.{Ready}
 use mathlib.Core.Path.{_≡_}
 use Rattle.image_judge.proofs.Laws.{walk-cases}

@@ -8,7 +8,11 @@ put-head-spec =
     tie.close
     (tie.spec
     (λ c κs. search (head-cases, needs))  -- byte-requires
+    (λ c κs. search (head-cases, needs))  -- cell-requires
+    (λ c κs. search (head-cases, needs))  -- cell-requires-2
     (λ c κs. search (head-cases, needs))  -- put-pair-requires
+    (λ c κs. search (head-cases, needs))  -- cell-requires-3
+    (λ c κs. search (head-cases, needs))  -- cell-requires-4
     (λ c κs. search (head-cases, needs))  -- put-pair-requires-2
     (λ c. search (head-cases, needs))  -- same-length
     (λ c. search (head-cases, needs)))

@@ -1,6 +1,6 @@
 use borrow.Author.Needs.{needs}
 use Rattle.scan.specs.Scan.{failsOf}
-use Rattle.records.specs.First.{first}
+use Rattle.image_records.specs.First.{first}
 use Rattle.image_write.specs.Writing.{fitsAt}
 use mathlib.Core.Path.{_≡_}
 use Prim.Native.Nat.{_-_}

@@ -7,8 +7,6 @@ pub fitted-spec : {M : Type 1} → statement M
 fitted-spec =
     tie.close
     (tie.spec
-    (λ c. search (fitted-cases, needs))  -- mul-pieces-size
-    (λ c. search (fitted-cases, needs))  -- add-pieces-size
-    (λ c κs. search (fitted-cases, needs))  -- pieces-size-requires
+    (λ c κs. search (fitted-cases, needs))  -- image-size-requires
     (λ c. search (fitted-cases, needs))  -- returns
     (λ c. search (fitted-cases, needs)))

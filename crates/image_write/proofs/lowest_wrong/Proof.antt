@@ -8,10 +8,10 @@ use Rattle.image_write.proofs.lowest_wrong.Statement.{statement}
 use Rattle.image_write.proofs.lowest_wrong.Tie as tie
 
 abbrev Inv-loop : tie.InvT-loop
-Inv-loop b s table buffers i₀ i = failsOf (entryFits b table buffers) 0 (s - 0) ≡ failsOf (entryFits b table buffers) i (s - i)
+Inv-loop z table buffers i₀ i = failsOf (entryFits (z .b) table buffers) 0 (z .s - 0) ≡ failsOf (entryFits (z .b) table buffers) i (z .s - i)
 
 abbrev μ-loop : tie.MeasureT-loop
-μ-loop b s table buffers i₀ i = s - i
+μ-loop z table buffers i₀ i = z .s - i
 
 pub lowest-wrong-spec : {M : Type 1} → statement M
 lowest-wrong-spec =

@@ -9,10 +9,10 @@ use Rattle.judge.proofs.check.Statement.{statement}
 use Rattle.judge.proofs.check.Tie as tie
 
 abbrev Inv-loop : tie.InvT-loop
-Inv-loop e b n s keys table buffers i₀ i = failsOf (rulesOf (storeOf e b n s keys table buffers)) 0 (s - 0) ≡ failsOf (rulesOf (storeOf e b n s keys table buffers)) i (s - i)
+Inv-loop z keys table buffers i₀ i = failsOf (rulesOf (storeOf z keys table buffers)) 0 (z .s - 0) ≡ failsOf (rulesOf (storeOf z keys table buffers)) i (z .s - i)
 
 abbrev μ-loop : tie.MeasureT-loop
-μ-loop e b n s keys table buffers i₀ i = s - i
+μ-loop z keys table buffers i₀ i = z .s - i
 
 pub check-spec : {M : Type 1} → statement M
 check-spec =

@@ -7,7 +7,6 @@ pub key-ok-spec : {M : Type 1} → statement M
 key-ok-spec =
     tie.close
     (tie.spec
-    (λ c. search (key-cases, needs))  -- add-run-key
     (λ c κs. search (key-cases, needs))  -- run-key-requires
     (λ c. search (key-cases, needs))  -- returns
     (λ c κs. search (key-cases, needs))  -- used-key-requires

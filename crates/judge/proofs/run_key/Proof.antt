@@ -7,6 +7,7 @@ pub run-key-spec : {M : Type 1} → statement M
 run-key-spec =
     tie.close
     (tie.spec
+    (λ c. search (run-key-cases, needs))  -- add-p
     (λ c κs. search (run-key-cases, needs))  -- between-requires
     (λ c κs. search (run-key-cases, needs))  -- window-requires
     (λ c. search (run-key-cases, needs))  -- returns

@@ -8,13 +8,11 @@ segment-ok-spec =
     tie.close
     (tie.spec
     (λ c κs. search (segment-cases, needs))  -- entry-at-requires
-    (λ c κs. search (segment-cases, needs))  -- damaged-requires
-    (λ c. search (segment-cases, needs))  -- returns
-    (λ c κs. search (segment-cases, needs))  -- starts-requires
-    (λ c. search (segment-cases, needs))  -- mul-if3
-    (λ c. search (segment-cases, needs))  -- shared-slice-read-if3
+    (λ c κs. search (segment-cases, needs))  -- entry-ok-requires
     (λ c κs. search (segment-cases, needs))  -- ceiling-requires
-    (λ c κs. search (segment-cases, needs))  -- kept-at-requires
-    (λ c. search (segment-cases, needs))  -- returns-2
-    (λ c. search (segment-cases, needs))  -- returns-3
+    (λ c κs. search (segment-cases, needs))  -- run-of-requires
+    (λ c κs. search (segment-cases, needs))  -- used-of-requires
+    (λ c κs. search (segment-cases, needs))  -- in-use-requires
+    (λ c κs. search (segment-cases, needs))  -- kept-requires
+    (λ c. search (segment-cases, needs))  -- returns
     (λ c. search (segment-cases, needs)))

@@ -7,10 +7,7 @@ pub readstore-check-spec : {M : Type 1} → statement M
 readstore-check-spec =
     tie.close
     (tie.spec
-    (λ c κs. search (check-calls, needs))  -- size-requires
-    (λ c κs. search (check-calls, needs))  -- size-requires-2
-    (λ c κs. search (check-calls, needs))  -- size-requires-3
-    (λ c κs. search (check-calls, needs))  -- size-requires-4
+    (λ c κs. search (check-calls, needs))  -- sizes-of-requires
     (λ c κs. search (check-calls, needs))  -- check-requires
     (λ c κs. search (check-calls, needs))  -- checked-numbers-requires
     (λ c. search (check-calls, needs)))

@@ -7,10 +7,7 @@ pub readstore-image-write-spec : {M : Type 1} → statement M
 readstore-image-write-spec =
     tie.close
     (tie.spec
-    (λ c κs. search (write-calls, needs))  -- size-requires
-    (λ c κs. search (write-calls, needs))  -- size-requires-2
-    (λ c κs. search (write-calls, needs))  -- size-requires-3
-    (λ c κs. search (write-calls, needs))  -- size-requires-4
+    (λ c κs. search (write-calls, needs))  -- sizes-of-requires
     (λ c κs. search (write-calls, needs))  -- write-image-requires
     (λ c κs. search (write-calls, needs))  -- written-numbers-requires
     (λ c. search (write-calls, needs))  -- same-length

@@ -7,10 +7,7 @@ pub readstore-insert-spec : {M : Type 1} → statement M
 readstore-insert-spec =
     tie.close
     (tie.spec
-    (λ c κs. search (insert-calls, needs))  -- size-requires
-    (λ c κs. search (insert-calls, needs))  -- size-requires-2
-    (λ c κs. search (insert-calls, needs))  -- size-requires-3
-    (λ c κs. search (insert-calls, needs))  -- size-requires-4
+    (λ c κs. search (insert-calls, needs))  -- sizes-of-requires
     (λ c κs. search (insert-calls, needs))  -- insert-requires
     (λ c κs. search (insert-calls, needs))  -- inserted-numbers-requires
     (λ c. search (insert-calls, needs))  -- same-length

@@ -7,10 +7,7 @@ pub readstore-lookup-spec : {M : Type 1} → statement M
 readstore-lookup-spec =
     tie.close
     (tie.spec
-    (λ c κs. search (lookup-calls, needs))  -- size-requires
-    (λ c κs. search (lookup-calls, needs))  -- size-requires-2
-    (λ c κs. search (lookup-calls, needs))  -- size-requires-3
-    (λ c κs. search (lookup-calls, needs))  -- size-requires-4
+    (λ c κs. search (lookup-calls, needs))  -- sizes-of-requires
     (λ c κs. search (lookup-calls, needs))  -- lookup-requires
     (λ c κs. search (lookup-calls, needs))  -- looked-numbers-requires
     (λ c. search (lookup-calls, needs)))

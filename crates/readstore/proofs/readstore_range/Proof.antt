@@ -7,10 +7,7 @@ pub readstore-range-spec : {M : Type 1} → statement M
 readstore-range-spec =
     tie.close
     (tie.spec
-    (λ c κs. search (range-calls, needs))  -- size-requires
-    (λ c κs. search (range-calls, needs))  -- size-requires-2
-    (λ c κs. search (range-calls, needs))  -- size-requires-3
-    (λ c κs. search (range-calls, needs))  -- size-requires-4
+    (λ c κs. search (range-calls, needs))  -- sizes-of-requires
     (λ c κs. search (range-calls, needs))  -- range-requires
     (λ c κs. search (range-calls, needs))  -- ranged-numbers-requires
     (λ c. search (range-calls, needs))  -- same-length

@@ -1,0 +1,4 @@
+pub mod Chosen
+pub mod Descent
+pub mod Picked
+pub mod Stretch

@@ -1,0 +1,121 @@
+// What an insert writes, from document 01 alone: everything is made anew in a lent working slice, then copied back.
+use compare_plain::cells::above;
+use compare_plain::cells::at;
+use compare_plain::cells::copy;
+use compare_plain::cells::product;
+use compare_plain::cells::put;
+use compare_plain::cells::put_five;
+use compare_plain::cells::size;
+use compare_plain::cells::sum;
+use compare_plain::segment::base;
+use compare_plain::segment::end;
+use compare_plain::segment::first;
+use compare_plain::segment::held;
+use compare_plain::segment::rise;
+use compare_plain::segment::run;
+use compare_plain::segment::slot;
+
+// Keys from `to` to n move up by B.
+fn moved_keys(keys: &[u64], b: u64, n: u64, to: u64, list: &mut [u64]) {
+    for p in to..n {
+        put(list, sum(p, b), at(keys, p));
+    }
+}
+
+// Entry j moves by d places, and its base grows by B.
+fn moved_entry(table: &[u64], b: u64, j: u64, d: u64, list: &mut [u64]) {
+    put_five(
+        list,
+        product(sum(j, d), 5),
+        first(table, j),
+        sum(base(table, j), b),
+        rise(table, j),
+        run(table, j),
+        held(table, j),
+    );
+}
+
+fn moved_entries(table: &[u64], b: u64, s: u64, i: u64, d: u64, list: &mut [u64]) {
+    let next = sum(i, 1);
+    for j in next..s {
+        moved_entry(table, b, j, d, list);
+    }
+}
+
+// The used slots of segment j move by d segments.
+fn moved_used(buffers: &[u64], b: u64, j: u64, d: u64, used: u64, list: &mut [u64]) {
+    for x in 0..used {
+        put(list, sum(product(sum(j, d), b), x), slot(b, buffers, j, x));
+    }
+}
+
+fn moved_slots(buffers: &[u64], table: &[u64], b: u64, s: u64, i: u64, d: u64, list: &mut [u64]) {
+    let next = sum(i, 1);
+    for j in next..s {
+        moved_used(buffers, b, j, d, held(table, j), list);
+    }
+}
+
+// The merge's keys: the list of m keys at the run's place, and what follows it moved.
+fn new_keys(
+    keys: &mut [u64],
+    b: u64,
+    n: u64,
+    from: u64,
+    to: u64,
+    list: &[u64],
+    m: u64,
+    work: &mut [u64],
+) {
+    let all = size(keys);
+    copy(keys, all, work, 0);
+    moved_keys(keys, b, n, to, work);
+    copy(list, m, work, from);
+    copy(work, all, keys, 0);
+}
+
+// The merge's slots: those of later segments moved.
+fn new_slots(buffers: &mut [u64], table: &[u64], b: u64, s: u64, i: u64, d: u64, work: &mut [u64]) {
+    let all = size(buffers);
+    copy(buffers, all, work, 0);
+    moved_slots(buffers, table, b, s, i, d, work);
+    copy(work, all, buffers, 0);
+}
+
+// The merge's table: t new entries at i, and what follows moved.
+fn new_table(table: &mut [u64], b: u64, s: u64, i: u64, entries: &[u64], t: u64, work: &mut [u64]) {
+    let all = size(table);
+    copy(table, all, work, 0);
+    moved_entries(table, b, s, i, above(t, 1), work);
+    copy(entries, product(t, 5), work, product(i, 5));
+    copy(work, all, table, 0);
+}
+
+// k in its rising place in the used slots of segment i; held grows by one.
+pub fn buffered(b: u64, table: &mut [u64], buffers: &mut [u64], i: u64, longer: &[u64]) {
+    let used = sum(held(table, i), 1);
+    copy(longer, used, buffers, product(i, b));
+    put(table, sum(product(i, 5), 4), used);
+}
+
+// Segment i merged and cut into t.
+pub fn merged(
+    b: u64,
+    n: u64,
+    s: u64,
+    keys: &mut [u64],
+    table: &mut [u64],
+    buffers: &mut [u64],
+    i: u64,
+    t: u64,
+    list: &[u64],
+    entries: &[u64],
+    work: &mut [u64],
+) {
+    let from = base(table, i);
+    let to = end(n, s, table, i);
+    let m = sum(above(to, from), b);
+    new_keys(keys, b, n, from, to, list, m, work);
+    new_slots(buffers, table, b, s, i, above(t, 1), work);
+    new_table(table, b, s, i, entries, t, work);
+}

@@ -1,0 +1,3 @@
+pub mod Weighing
+pub mod Told
+pub mod Laws
