@@ -1,4 +1,4 @@
--- 01, "Lookup": "Choose the segment; refuse if that entry is damaged." The one definition of what a call knows of the table.
+-- 01, "Lookup": "Choose; refuse if that entry is damaged." The one definition of what a call knows of the table.
 use mathlib.Core.Path.{_≡_}
 use mathlib.Core.Bool.{true}
 use mathlib.Core.List.{List}

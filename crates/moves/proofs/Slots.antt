@@ -82,7 +82,7 @@ module _ (xs tail : List ℕ) (b count by : ℕ) where
       used : ℕ
       used = getD tail (5 * (c - 1) + 4) 0
 
-      few-used : getD tail (5 * (c - 1) + 4) 0 ≤ b
+      pub few-used : getD tail (5 * (c - 1) + 4) 0 ≤ b
       few-used = w .asked .few (c - 1) (omega (arith, w .more))
 
       below-all : (by + c) * b ≤ (by + count) * b
@@ -97,8 +97,8 @@ module _ (xs tail : List ℕ) (b count by : ℕ) where
       pub lift-index : Fits w64 ((c - 1) * b)
       lift-index = record { fits = omega (arith, w .asked .small, apart, below-all) }
 
-      pub lift-asks : (m : ℕ) → m ≤ getD tail (5 * (c - 1) + 4) 0 → Movable slots ((c - 1) * b) m (by * b)
-      lift-asks m l = record { fits = omega (arith, few-used, room-here, apart, w .same) }
+      pub lift-asks : (m : ℕ) → m ≤ b → Movable slots ((c - 1) * b) m (by * b)
+      lift-asks m l = record { fits = omega (arith, room-here, apart, w .same) }
 
       pub lift-turn : {s : List ℕ} → s ≡ moved ((c - 1) * b) (getD tail (5 * (c - 1) + 4) 0) ((c - 1) * b + by * b) slots → Lifting xs tail b count by s (c - 1)
       unfolding moved laid
@@ -118,7 +118,7 @@ module _ (xs tail : List ℕ) (b count by : ℕ) where
           record {
             asked = w .asked;
             more = omega (arith, w .more);
-            same = ap length is ∙ length-moved slots F v (F + by * b) (omega (arith, lift-asks v (le-refl v))) (omega (arith, lift-asks v (le-refl v))) ∙ w .same;
+            same = ap length is ∙ length-moved slots F v (F + by * b) (omega (arith, lift-asks v few-used)) (omega (arith, lift-asks v few-used)) ∙ w .same;
             is =
                 is ∙ ap (λ (m : List ℕ). take (F + by * b) m ++ (take v (drop F m) ++ drop (F + by * b + v) m)) now-is
                 ∙ rw (e, q, drop-drop b F xs, drop-drop b D xs)
@@ -132,4 +132,4 @@ module _ (xs tail : List ℕ) (b count by : ℕ) where
         let e : by + 0 ≡ by = omega arith in
         w .is ∙ rw (z, e, zero-mul b) refl
 
-pub ruleset lift-cases = (lift-still, lift-start, lift-index, lift-asks, lift-turn, lift-end, le-refl, zero-le)
+pub ruleset lift-cases = (lift-still, lift-start, lift-index, few-used, lift-asks, lift-turn, lift-end, le-refl, zero-le)

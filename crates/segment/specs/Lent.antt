@@ -24,7 +24,8 @@ pub record UsedHeld (b : ℕ) (buffers : List ℕ) (i : ℕ) (x : Entry) : Type 
   pub held : i * b + x .held ≤ length buffers
   pub few : i * b + x .held < 2 ^ 64
 
--- x is an entry that is not damaged; run and used are what its segment lends
+-- what the functions below a call ask of an entry that is not damaged, and of the lengths of the run and the used slots that its segment lends; that
+-- these are the store's own is what `run_of` and `used_of` ensure
 pub record Lent (x : Entry) (run used : List ℕ) : Type 0 where
   pub first-small : IsKey (x .first .0)
   pub run-some : 0 < x .run
