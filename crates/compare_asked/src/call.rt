@@ -43,6 +43,11 @@ pub fn in_numbers(c: Call) -> Asked {
     }
 }
 
+// Whether the call writes to the store: it builds, inserts or reads an image.
+pub fn writes(c: Asked) -> bool {
+    c.kind == 0 || c.kind == 4 || c.kind == 6
+}
+
 // n, or what there is if that is less.
 pub fn cap(n: u64, most: usize) -> usize
     ensures { λ r. ⌜ r ≤ most ⌝ }

@@ -88,16 +88,7 @@ fn lowest_fault(keys: &[u64], n: u64) -> u64 {
     NONE
 }
 
-// `entries` is lent to work in: five cells for each key.
-pub fn build(
-    e: u64,
-    b: u64,
-    n: u64,
-    keys: &[u64],
-    table: &mut [u64],
-    buffers: &[u64],
-    entries: &mut [u64],
-) -> [u64; 8] {
+pub fn build(e: u64, b: u64, n: u64, keys: &[u64], table: &mut [u64], buffers: &[u64]) -> [u64; 8] {
     if limits(e, b, n, 1) {
         if size(keys) < n {
             return refused(1, 0);
@@ -106,11 +97,12 @@ pub fn build(
         if p < NONE {
             return refused(fault(keys, p), p);
         }
-        let t = cut(e, keys, n, 0, entries);
+        let mut entries = [0u64; 1700];
+        let t = cut(e, keys, n, 0, &mut entries);
         if segment_room(b, table, buffers) < t {
             return refused(7, 0);
         }
-        copy(entries, product(t, 5), table, 0);
+        copy(&entries, product(t, 5), table, 0);
         return answer(0, t, 0, 0, 0);
     }
     refused(1, 0)

@@ -1,7 +1,8 @@
-// What an insert writes, from document 01 alone: everything is made anew in a lent working slice, then copied back.
+// What an insert makes and writes, from document 01 alone: everything is made anew in a list of its own, then copied back.
 use compare_plain::cells::above;
 use compare_plain::cells::at;
 use compare_plain::cells::copy;
+use compare_plain::cells::count_below;
 use compare_plain::cells::product;
 use compare_plain::cells::put;
 use compare_plain::cells::put_five;
@@ -14,6 +15,54 @@ use compare_plain::segment::held;
 use compare_plain::segment::rise;
 use compare_plain::segment::run;
 use compare_plain::segment::slot;
+use compare_plain_build::cut;
+use compare_plain_reads::merge::merge;
+
+// The used slots of segment i, in the list from its start.
+pub fn used_list(b: u64, buffers: &[u64], i: u64, used: u64, list: &mut [u64]) {
+    for j in 0..used {
+        put(list, j, slot(b, buffers, i, j));
+    }
+}
+
+// The first m keys of a list, with k put in at its rising place, in another.
+fn with_key(list: &[u64], m: u64, k: u64, longer: &mut [u64]) {
+    let place = count_below(list, m, k);
+    copy(list, m, longer, 0);
+    for j in place..m {
+        put(longer, sum(j, 1), at(list, j));
+    }
+    put(longer, place, k);
+}
+
+// The used slots of segment i with k at its rising place among them, in the list from its start.
+fn seated(b: u64, table: &[u64], buffers: &[u64], i: u64, k: u64, longer: &mut [u64]) {
+    let mut list = [0u64; 80];
+    let used = held(table, i);
+    used_list(b, buffers, i, used, &mut list);
+    with_key(&list, used, k, longer);
+}
+
+// The run, the used slots and k as one list, from its start. Its length.
+pub fn joined(
+    b: u64,
+    n: u64,
+    s: u64,
+    keys: &[u64],
+    table: &[u64],
+    buffers: &[u64],
+    i: u64,
+    k: u64,
+    list: &mut [u64],
+) -> u64 {
+    let mut longer = [0u64; 80];
+    seated(b, table, buffers, i, k, &mut longer);
+    let from = base(table, i);
+    let to = end(n, s, table, i);
+    let m = sum(above(to, from), b);
+    merge(keys, from, to, &longer, 0, b, list, 0, m);
+    m
+}
 
 // Keys from `to` to n move up by B.
 fn moved_keys(keys: &[u64], b: u64, n: u64, to: u64, list: &mut [u64]) {
@@ -57,49 +106,46 @@ fn moved_slots(buffers: &[u64], table: &[u64], b: u64, s: u64, i: u64, d: u64, l
 }
 
 // The merge's keys: the list of m keys at the run's place, and what follows it moved.
-fn new_keys(
-    keys: &mut [u64],
-    b: u64,
-    n: u64,
-    from: u64,
-    to: u64,
-    list: &[u64],
-    m: u64,
-    work: &mut [u64],
-) {
+fn new_keys(keys: &mut [u64], b: u64, n: u64, from: u64, to: u64, list: &[u64], m: u64) {
+    let mut work = [0u64; 256];
     let all = size(keys);
-    copy(keys, all, work, 0);
-    moved_keys(keys, b, n, to, work);
-    copy(list, m, work, from);
-    copy(work, all, keys, 0);
+    copy(keys, all, &mut work, 0);
+    moved_keys(keys, b, n, to, &mut work);
+    copy(list, m, &mut work, from);
+    copy(&work, all, keys, 0);
 }
 
 // The merge's slots: those of later segments moved.
-fn new_slots(buffers: &mut [u64], table: &[u64], b: u64, s: u64, i: u64, d: u64, work: &mut [u64]) {
+fn new_slots(buffers: &mut [u64], table: &[u64], b: u64, s: u64, i: u64, d: u64) {
+    let mut work = [0u64; 512];
     let all = size(buffers);
-    copy(buffers, all, work, 0);
-    moved_slots(buffers, table, b, s, i, d, work);
-    copy(work, all, buffers, 0);
+    copy(buffers, all, &mut work, 0);
+    moved_slots(buffers, table, b, s, i, d, &mut work);
+    copy(&work, all, buffers, 0);
 }
 
 // The merge's table: t new entries at i, and what follows moved.
-fn new_table(table: &mut [u64], b: u64, s: u64, i: u64, entries: &[u64], t: u64, work: &mut [u64]) {
+fn new_table(table: &mut [u64], b: u64, s: u64, i: u64, entries: &[u64], t: u64) {
+    let mut work = [0u64; 320];
     let all = size(table);
-    copy(table, all, work, 0);
-    moved_entries(table, b, s, i, above(t, 1), work);
-    copy(entries, product(t, 5), work, product(i, 5));
-    copy(work, all, table, 0);
+    copy(table, all, &mut work, 0);
+    moved_entries(table, b, s, i, above(t, 1), &mut work);
+    copy(entries, product(t, 5), &mut work, product(i, 5));
+    copy(&work, all, table, 0);
 }
 
 // k in its rising place in the used slots of segment i; held grows by one.
-pub fn buffered(b: u64, table: &mut [u64], buffers: &mut [u64], i: u64, longer: &[u64]) {
+pub fn buffered(b: u64, table: &mut [u64], buffers: &mut [u64], i: u64, k: u64) {
+    let mut longer = [0u64; 80];
+    seated(b, table, buffers, i, k, &mut longer);
     let used = sum(held(table, i), 1);
-    copy(longer, used, buffers, product(i, b));
+    copy(&longer, used, buffers, product(i, b));
     put(table, sum(product(i, 5), 4), used);
 }
 
-// Segment i merged and cut into t.
+// Segment i merged with k, and cut again.
 pub fn merged(
+    e: u64,
     b: u64,
     n: u64,
     s: u64,
@@ -107,15 +153,15 @@ pub fn merged(
     table: &mut [u64],
     buffers: &mut [u64],
     i: u64,
-    t: u64,
-    list: &[u64],
-    entries: &[u64],
-    work: &mut [u64],
+    k: u64,
 ) {
+    let mut list = [0u64; 1024];
+    let mut entries = [0u64; 1700];
     let from = base(table, i);
     let to = end(n, s, table, i);
-    let m = sum(above(to, from), b);
-    new_keys(keys, b, n, from, to, list, m, work);
-    new_slots(buffers, table, b, s, i, above(t, 1), work);
-    new_table(table, b, s, i, entries, t, work);
+    let m = joined(b, n, s, keys, table, buffers, i, k, &mut list);
+    let t = cut(e, &list, m, from, &mut entries);
+    new_keys(keys, b, n, from, to, &list, m);
+    new_slots(buffers, table, b, s, i, above(t, 1));
+    new_table(table, b, s, i, &entries, t);
 }

@@ -1,12 +1,27 @@
-// The plain side of a call: the plain implementation, with the room that it works in. It names nothing of the store's own crates, so that it can be
-// proved beside them.
+// The plain side of a call: the plain implementation's call of that kind. It names nothing of the store's own crates, so that it can be proved beside
+// them.
 use compare_asked::call::Asked;
 use compare_draws::store::Shape;
 
-mod rooms;
+// A call that writes to the store, of slices as they are lent.
+pub fn write_to(
+    c: Asked,
+    x: Shape,
+    keys: &mut [u64],
+    table: &mut [u64],
+    slots: &mut [u64],
+    image: &[u8],
+) -> [u64; 8] {
+    let kind = c.kind;
+    match kind {
+        0 => compare_plain_build::build(x.e, x.b, x.n, keys, table, slots),
+        4 => compare_plain_insert::insert(x.e, x.b, x.n, x.s, keys, table, slots, c.key),
+        _ => compare_plain_image::read(image, keys, table, slots),
+    }
+}
 
-// The calls that change no cell of the store.
-fn read_only(
+// A call that changes no cell of the store, of slices as they are lent.
+pub fn read_from(
     c: Asked,
     x: Shape,
     keys: &[u64],
@@ -17,28 +32,20 @@ fn read_only(
 ) -> [u64; 8] {
     let kind = c.kind;
     match kind {
-        1 => rooms::check(x, keys, table, slots),
+        1 => compare_plain_reads::merge::check(x.e, x.b, x.n, x.s, keys, table, slots),
         2 => compare_plain_reads::looking::lookup(x.e, x.b, x.n, x.s, keys, table, slots, c.key),
-        3 => rooms::range(x, keys, table, slots, c.key, c.high, out),
+        3 => compare_plain_reads::merge::range(
+            x.e,
+            x.b,
+            x.n,
+            x.s,
+            keys,
+            table,
+            slots,
+            c.key,
+            c.high,
+            out,
+        ),
         _ => compare_plain_image::write(x.e, x.b, x.n, x.s, keys, table, slots, image),
-    }
-}
-
-// Any call, of slices as they are lent.
-pub fn make(
-    c: Asked,
-    x: Shape,
-    keys: &mut [u64],
-    table: &mut [u64],
-    slots: &mut [u64],
-    out: &mut [u64],
-    image: &mut [u8],
-) -> [u64; 8] {
-    let kind = c.kind;
-    match kind {
-        0 => rooms::build(x, keys, table, slots),
-        4 => rooms::insert(x, keys, table, slots, c.key),
-        6 => compare_plain_image::read(image, keys, table, slots),
-        _ => read_only(c, x, keys, table, slots, out, image),
     }
 }

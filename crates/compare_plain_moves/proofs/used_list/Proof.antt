@@ -2,8 +2,8 @@ use borrow.Author.Needs.{needs}
 use mathlib.Core.Path.{_≡_}
 use lib.ListN.{length}
 use Prim.Native.Nat.{_-_}
-use Rattle.compare_plain_insert.proofs.used_list.Statement.{statement}
-use Rattle.compare_plain_insert.proofs.used_list.Tie as tie
+use Rattle.compare_plain_moves.proofs.used_list.Statement.{statement}
+use Rattle.compare_plain_moves.proofs.used_list.Tie as tie
 
 abbrev Inv-loop : tie.InvT-loop
 Inv-loop b buffers i used list₀ j₀ list j = length list ≡ length list₀

@@ -2,8 +2,8 @@ use borrow.Author.Needs.{needs}
 use mathlib.Core.Path.{_≡_}
 use lib.ListN.{length}
 use Prim.Native.Nat.{_-_}
-use Rattle.compare_plain_insert.proofs.with_key.Statement.{statement}
-use Rattle.compare_plain_insert.proofs.with_key.Tie as tie
+use Rattle.compare_plain_moves.proofs.with_key.Statement.{statement}
+use Rattle.compare_plain_moves.proofs.with_key.Tie as tie
 
 abbrev Inv-loop : tie.InvT-loop
 Inv-loop list m k longer₀ place j₀ longer j = length longer ≡ length longer₀
