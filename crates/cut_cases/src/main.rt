@@ -57,7 +57,8 @@ fn show_many(count: usize, end: usize, odd: u8)
     show_front(text, end);
 }
 
-fn easy() {
+// Lines that are missing, or that are no line.
+fn lines() {
     // nothing at all
     show(b"");
     // B is missing
@@ -75,6 +76,10 @@ fn easy() {
     show(b"1\n2\n+5\n");
     // a space
     show(b"1\n2\n 5\n");
+}
+
+// How many digits, and how large a number.
+fn numbers() {
     // 15 digits
     show(b"1\n2\n100000000000000\n");
     // 14 digits above the limit
@@ -92,7 +97,10 @@ fn easy() {
     show(b"1025\n2\n5\n");
     show(b"1\n0\n5\n");
     show(b"1\n65\n5\n");
-    // P1 to P8
+}
+
+// P1 to P8.
+fn worked_runs() {
     show(b"0\n1\n0\n1\n3\n");
     show(b"0\n1\n0\n1\n2\n");
     show(b"1\n1\n0\n1\n2\n6\n");
@@ -101,6 +109,10 @@ fn easy() {
     show(b"1\n1\n0\n10\n11\n12\n");
     show(b"1024\n64\n7\n");
     show(b"2\n2\n10\n20\n30\n100\n110\n120\n");
+}
+
+// Segment room.
+fn rooms() {
     // 32 segments fill 2,048 slots of 64, and a 33rd has no room
     show(
         b"0\n64\n0\n1\n4\n9\n16\n25\n36\n49\n64\n81\n100\n121\n144\n169\n196\n225\n256\n289\n324\n361\n400\n441\n484\n529\n576\n625\n676\n729\n784\n841\n900\n961\n1024\n1089\n1156\n1225\n1296\n1369\n1444\n1521\n1600\n1681\n1764\n1849\n1936\n2025\n2116\n2209\n2304\n2401\n2500\n2601\n2704\n2809\n2916\n3025\n3136\n3249\n3364\n3481\n3600\n3721\n3844\n3969\n",
@@ -111,7 +123,10 @@ fn easy() {
 }
 
 fn main() {
-    easy();
+    lines();
+    numbers();
+    worked_runs();
+    rooms();
     // 512 keys; a 513th, sound; a 513th, malformed; a 513th with no newline; malformed after the 513th
     show_many(512, 2565, 49);
     show_many(513, 2570, 50);
