@@ -7,25 +7,27 @@ use Prim.Native.Nat.{ℕ, _+_, _-_, _*_, _/_, _≤_, _<_}
 use native.Mathlib.Nat.{le-div-iff-mul-le}
 use native.Mathlib.Omega.{arith}
 use lib.Dec.{leb}
-use lib.ListN.{length, getD, take}
+use lib.ListN.{length, take}
 use lib.Seq.{length-take-le}
 use borrow.Author.Tests.{leb-true, le-leb}
 use Rattle.lists.proofs.Tests.{both-true, either}
-use Rattle.terms.specs.Keys.{isKey}
+use Rattle.terms.specs.Limits.{eMost, nMost}
 use Rattle.terms.specs.declared.Refusal.{Refusal}
-use Rattle.terms.specs.declared.Refusal.the-variants.{Limits, LargeKey, NotRising, SegmentRoom}
+use Rattle.terms.specs.declared.Refusal.the-variants.{Limits, SegmentRoom}
 use Rattle.scan.specs.declared.Found.{Found}
 use Rattle.scan.specs.declared.Found.the-variants.{At, Nothing}
 use Rattle.table.specs.Limits.{sizedOf, segmentRoom}
 use Rattle.table.proofs.Limits.{sized-true, true-sized, Holds, room-holds}
 use Rattle.cone.specs.Rule.{cut}
+use Rattle.cone.specs.Keys.{Cuttable}
 use Rattle.cone.proofs.Cover.{few}
 use Rattle.cutting.specs.Rows.{Writable}
 use Rattle.build.specs.declared.Judged.{Judged}
 use Rattle.build.specs.declared.Judged.the-variants.{Clear, Faulty}
 use Rattle.answers.specs.declared.Built.the-variants.{Made, Refused}
-use Rattle.build.specs.Build.{takesOf, Takes, faultOf, wrongOf, roomedOf, foundOf, judgedOf, answerBy, builtOf, Held, HeldAt, Roomable}
-use Rattle.build.proofs.Faults.{fault-lowest, all-good, good-cuttable}
+use Rattle.build_keys.specs.Faults.{Good, faultOf, wrongOf, Held, HeldAt}
+use Rattle.build_keys.proofs.Faults.{fault-lowest, all-good, good-up}
+use Rattle.build.specs.Build.{takesOf, Takes, roomedOf, foundOf, judgedOf, answerBy, builtOf, Roomable}
 
 -- ---- the limits
 
@@ -50,18 +52,11 @@ pub true-takes : (e b n : ℕ) (keys : List ℕ) → Takes e b n keys → takesO
 unfolding takesOf
 true-takes e b n keys t = simp (true-sized e b n (t .sized), le-leb _ _ (t .held))
 
--- ---- what is wrong with a key
+-- ---- keys without a fault can be cut
 
-module _ (keys : List ℕ) (p : ℕ) {r : Bool} (tested : r ≡ isKey (getD keys p 0)) where
-  pub wrong-rising : r ≡ true → NotRising (record { 0 = p }) ≡ wrongOf keys p
-  unfolding wrongOf
-  wrong-rising q = simp (sym tested ∙ q)
-
-  pub wrong-large : r ≡ false → LargeKey (record { 0 = p }) ≡ wrongOf keys p
-  unfolding wrongOf
-  wrong-large q = simp (sym tested ∙ q)
-
-pub ruleset wrong-cases = (wrong-rising, wrong-large)
+pub good-cuttable : (e : ℕ) (keys : List ℕ) (n : ℕ) → e ≤ eMost → n ≤ nMost → n ≤ length keys → ((q : ℕ) → q < n → Good keys q) → Cuttable e (take n keys)
+good-cuttable e keys n bound few held good =
+    record { bound = bound; few = omega (arith, length-take-le n keys held); rising = good-up keys n held good }
 
 -- ---- the room: where it holds as many segments as a cut can have, they are not counted
 

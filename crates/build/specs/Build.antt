@@ -2,20 +2,18 @@
 -- A test that is used as a fact stands beside the record of that fact.
 use mathlib.Core.Bool.{Bool}
 use mathlib.Core.List.{List, _++_}
-use Prim.Native.Nat.{ℕ, _-_, _*_, _≤_, _<_}
-use lib.Dec.{ltb, leb}
-use lib.ListN.{length, getD, take, drop}
-use Rattle.lists.specs.Tests.{pick, both, imp}
-use Rattle.terms.specs.Keys.{isKey, IsKey}
-use Rattle.terms.specs.declared.Refusal.{Refusal}
-use Rattle.terms.specs.declared.Refusal.the-variants.{Limits, LargeKey, NotRising, SegmentRoom}
+use Prim.Native.Nat.{ℕ, _*_, _≤_, _<_}
+use lib.Dec.{leb}
+use lib.ListN.{length, take, drop}
+use Rattle.lists.specs.Tests.{pick, both}
+use Rattle.terms.specs.declared.Refusal.the-variants.{Limits, SegmentRoom}
 use Rattle.scan.specs.declared.Found.{Found}
 use Rattle.scan.specs.declared.Found.the-variants.{At, Nothing}
-use Rattle.scan.specs.Scan.{failsOf}
 use Rattle.table.specs.Limits.{sizedOf, Sized, segmentRoom}
 use Rattle.cone.specs.Rule.{cut}
 use Rattle.cone.specs.Keys.{Cuttable}
 use Rattle.cutting.specs.Rows.{rowsOf}
+use Rattle.build_keys.specs.Faults.{faultOf, wrongOf}
 use Rattle.build.specs.declared.Judged.{Judged}
 use Rattle.build.specs.declared.Judged.the-variants.{Clear, Faulty}
 use Rattle.answers.specs.declared.Built.{Built}
@@ -28,22 +26,6 @@ takesOf e b n keys = both (sizedOf e b n) (leb n (length keys))
 pub record Takes (e b n : ℕ) (keys : List ℕ) : Type 0 where
   pub sized : Sized e b n
   pub held : n ≤ length keys
-
--- the key at p is below 2^44, and above the one before
-unfoldable pub goodOf : List ℕ → ℕ → Bool
-goodOf keys p = both (isKey (getD keys p 0)) (imp (ltb 0 p) (ltb (getD keys (p - 1) 0) (getD keys p 0)))
-
-pub record Good (keys : List ℕ) (p : ℕ) : Type 0 where
-  pub small : IsKey (getD keys p 0)
-  pub above : 0 < p → getD keys (p - 1) 0 < getD keys p 0
-
--- the lowest faulty position among the first n
-unfoldable pub faultOf : List ℕ → ℕ → Found
-faultOf keys n = failsOf (goodOf keys) 0 n
-
--- 2: "a key given is not below 2^44"; 3: "key not above the one before"; "2 before 3"
-unfoldable pub wrongOf : List ℕ → ℕ → Refusal
-wrongOf keys p = pick (isKey (getD keys p 0)) (NotRising (record { 0 = p })) (LargeKey (record { 0 = p }))
 
 -- 7: "result needs more segments than segment room"
 abbrev pub roomedOf : ℕ → ℕ → Judged
@@ -72,13 +54,6 @@ builtOf e b n keys table buffers = answerBy (judgedOf e b n keys table buffers) 
 abbrev pub tableBy : Built → ℕ → ℕ → List ℕ → List ℕ → List ℕ
 tableBy (Refused r) e n keys table = table
 tableBy (Made s) e n keys table = rowsOf 0 (cut e (take n keys)) ++ drop (5 * s) table
-
--- what a look at the first n keys asks, and at one of them
-pub record Held (keys : List ℕ) (n : ℕ) : Type 0 where
-  pub held : n ≤ length keys
-
-pub record HeldAt (keys : List ℕ) (p : ℕ) : Type 0 where
-  pub held : p < length keys
 
 -- what the test of the room asks
 pub record Roomable (e b : ℕ) (ks : List ℕ) : Type 0 where

@@ -18,9 +18,11 @@ use Rattle.table.specs.Limits.{segmentRoom}
 use Rattle.cone.specs.Rule.{cut}
 use Rattle.answers.specs.declared.Built.{Built}
 use Rattle.answers.specs.declared.Built.the-variants.{Made, Refused}
-use Rattle.build.specs.Build.{takesOf, Takes, Good, faultOf, wrongOf, builtOf}
-use Rattle.build.proofs.Faults.{all-good, lower-good, fault-none, fault-at, fault-not-good, fault-lowest}
-use Rattle.build.proofs.Laws.{takes-true, true-takes, wrong-rising, wrong-large, judge-limits, judge-wrong, judge-cramped, judge-clear, build-faulty, build-made}
+use Rattle.build_keys.specs.Faults.{Good, faultOf, wrongOf}
+use Rattle.build.specs.Build.{takesOf, Takes, builtOf}
+use Rattle.build_keys.proofs.Faults.{all-good, lower-good, fault-none, fault-at, fault-not-good, fault-lowest}
+use Rattle.build_keys.proofs.Faults.{wrong-rising, wrong-large}
+use Rattle.build.proofs.Laws.{takes-true, true-takes, judge-limits, judge-wrong, judge-cramped, judge-clear, build-faulty, build-made}
 use Rattle.build_laws.specs.Builds.{Lowest, Large, Falls, Sound, Accepted, Builds, made, refused-1, refused-2, refused-3, refused-7}
 
 module _ (e b n : ℕ) (keys table buffers : List ℕ) where

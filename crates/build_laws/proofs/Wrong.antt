@@ -12,7 +12,8 @@ use Rattle.table.specs.Limits.{sizedOf}
 use Rattle.cone.specs.Rule.{joins, segmentOf, cutFrom, cut}
 use Rattle.cutting.specs.Rows.{rowsOf}
 use Rattle.answers.specs.declared.Built.the-variants.{Made, Refused}
-use Rattle.build.specs.Build.{takesOf, goodOf, faultOf, wrongOf, judgedOf, builtOf, tableBy}
+use Rattle.build_keys.specs.Faults.{goodOf, faultOf, wrongOf}
+use Rattle.build.specs.Build.{takesOf, judgedOf, builtOf, tableBy}
 use Rattle.build_laws.specs.Builds.{Builds}
 use Rattle.build_laws.proofs.Meaning.{only}
 

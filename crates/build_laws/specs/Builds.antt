@@ -10,7 +10,8 @@ use Rattle.table.specs.Limits.{segmentRoom}
 use Rattle.cone.specs.Rule.{cut}
 use Rattle.answers.specs.declared.Built.{Built}
 use Rattle.answers.specs.declared.Built.the-variants.{Made, Refused}
-use Rattle.build.specs.Build.{Takes, Good}
+use Rattle.build_keys.specs.Faults.{Good}
+use Rattle.build.specs.Build.{Takes}
 
 -- p is the lowest faulty position: the numbers are within their limits, and every key before p is a key above the one before it
 pub record Lowest (e b n : ℕ) (keys : List ℕ) (p : ℕ) : Type 0 where

@@ -16,7 +16,8 @@ use Rattle.scan.specs.declared.Found.the-variants.{At, Nothing}
 use Rattle.cone.specs.Rule.{cut}
 use Rattle.answers.specs.declared.Built.{Built}
 use Rattle.answers.specs.declared.Built.the-variants.{Made, Refused as NotBuilt}
-use Rattle.build.specs.Build.{takesOf, faultOf, roomedOf, foundOf, judgedOf, answerBy, builtOf, tableBy}
+use Rattle.build_keys.specs.Faults.{faultOf}
+use Rattle.build.specs.Build.{takesOf, roomedOf, foundOf, judgedOf, answerBy, builtOf, tableBy}
 use Rattle.cut_input.specs.declared.Listed.{Listed}
 use Rattle.cut_input.specs.declared.Listed.the-variants.{List as Given, Refused as NotListed}
 use Rattle.cut_input.specs.StartList.{listedOf, givenOf}

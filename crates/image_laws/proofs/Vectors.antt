@@ -19,7 +19,8 @@ use Rattle.image_judge.specs.Judging.{headedOf, judgedOf}
 use Rattle.image_read.specs.Loading.{keysHeld, segmentsHeld, roomedOf, loadOf}
 use Rattle.answers.specs.declared.Loaded.{Loaded}
 use Rattle.answers.specs.declared.Loaded.the-variants.{Store as Read, Refused as Unread}
-use Rattle.image_write.specs.Writing.{fitsAt, entryFits, runWrong, wrongOf, lengthOf, fittedOf, writeOf}
+use Rattle.image_fits.specs.Fits.{fitsAt, entryFits, runWrong, wrongOf}
+use Rattle.image_write.specs.Writing.{lengthOf, fittedOf, writeOf}
 use Rattle.answers.specs.declared.Written.the-variants.{Bytes, Refused as Unwritten}
 
 -- the printed store in slices of 16, 40 and 16 cells; what it does not use is 7

@@ -23,7 +23,8 @@ use Rattle.table.proofs.Limits.{limited-true, true-limited}
 use Rattle.image_records.specs.First.{first}
 use Rattle.image_records.specs.Stores.{rowIn}
 use Rattle.image_records.proofs.Records.{fits-fit, fit-fits}
-use Rattle.image_write.specs.Writing.{fitsAt, cellsFit, entryTests, entryFits, runWrong, orElse, wrongOf, lengthOf, fittedOf, judgedOf, writeOf}
+use Rattle.image_fits.specs.Fits.{fitsAt, cellsFit, entryTests, entryFits, runWrong, orElse, wrongOf}
+use Rattle.image_write.specs.Writing.{lengthOf, fittedOf, judgedOf, writeOf}
 use Rattle.answers.specs.declared.Written.{Written}
 use Rattle.answers.specs.declared.Written.the-variants.{Bytes, Refused}
 use Rattle.image_laws.specs.Writing.{Writable, Entries, Run, bytesOf, Answers, written, refused-1, refused-9-entry, refused-9-run, refused-8}

@@ -1,23 +1,9 @@
--- What the steps of writing ask, and the length of the segments' records as the code counts it.
+-- What the sum of the length asks, and the length of the segments' records as the code counts it.
 use mathlib.Core.Path.{_≡_}
 use mathlib.Core.List.{List}
 use Prim.Native.Nat.{ℕ, zero, suc, _+_, _*_, _≤_, _<_}
 use lib.ListN.{length, getD}
 use Rattle.terms.specs.Limits.{bMost, nMost, sMost}
-
--- the slices hold s entries
-pub record EntriesRoom (b s : ℕ) (t buffers : List ℕ) : Type 0 where
-  pub few : s ≤ sMost
-  pub rows : 5 * s ≤ length t
-  pub small : b ≤ bMost
-  pub slots : s * b ≤ length buffers
-
--- and i is one of them
-pub record EntryRoom (b s : ℕ) (t buffers : List ℕ) (i : ℕ) : Type 0 where
-  pub below : i < s
-  pub room : EntriesRoom b s t buffers
-
--- ---- the length
 
 -- 18 bytes for a segment and 7 for each key it holds: of `count` segments from i on
 unfoldable pub partsSize : List ℕ → ℕ → ℕ → ℕ

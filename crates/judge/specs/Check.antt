@@ -2,45 +2,29 @@
 use mathlib.Core.Path.{_≡_}
 use mathlib.Core.Bool.{Bool, true, not}
 use mathlib.Core.List.{List, [], _∷_}
-use Prim.Native.Nat.{ℕ, _+_, _*_, _≤_, _<_}
+use Prim.Native.Nat.{ℕ, _+_, _*_, _≤_}
 use lib.Dec.{ltb, leb, eqb}
 use lib.ListN.{length, getD, drop}
 use Rattle.lists.specs.Tests.{pick, both, imp}
-use Rattle.terms.specs.Limits.{riseMost, nMost, keyOf}
-use Rattle.terms.specs.Keys.{isKey}
 use Rattle.terms.specs.declared.Entry.{Entry}
 use Rattle.terms.specs.declared.Refusal.the-variants.{Limits as OutOfLimits, StoreWrong}
 use Rattle.table.specs.Store.{Store, inUse}
 use Rattle.table.specs.Limits.{limitedOf}
 use Rattle.table.specs.Entries.{entryIn, runIn, usedIn}
 use Rattle.table.specs.Damaged.{damagedOf}
-use Rattle.line.specs.Line.{windowOf}
 use Rattle.scan.specs.declared.Found.{Found}
 use Rattle.scan.specs.declared.Found.the-variants.{At, Nothing}
 use Rattle.scan.specs.Scan.{failsOf}
 use Rattle.order.specs.declared.Cursor.{Cursor}
 use Rattle.order.specs.declared.Bound.{Bound}
 use Rattle.order.specs.declared.Bound.the-variants.{Free, By}
-use Rattle.order.specs.Bound.{aboveOf, underOf}
+use Rattle.judge_key.specs.Key.{runKeyOf, usedKeyOf}
 use Rattle.answers.specs.declared.Checked.{Checked}
 use Rattle.answers.specs.declared.Checked.the-variants.{Good, Refused}
 
 -- what no key of segment i may reach
 abbrev pub ceilingOf : ℕ → List ℕ → ℕ → Bound
 ceilingOf s t i = pick (ltb (i + 1) s) (By (getD t (5 * (i + 1)) 0)) Free
-
--- a key of the merged order, after `before` and with the next segment at `next`
-unfoldable pub betweenOf : Bound → Bound → ℕ → Bool
-betweenOf next before k = both (isKey k) (both (aboveOf before k) (underOf next k))
-
--- one of the run, at position p: it lies in its own window
-unfoldable pub runKeyOf : ℕ → Entry → Bound → Bound → ℕ → ℕ → Bool
-runKeyOf e x next before k p =
-    both (betweenOf next before k) (both (leb (windowOf e x (keyOf k) .from .0) p) (ltb p (windowOf e x (keyOf k) .to .0)))
-
--- a used one, of segment i: after segment 0 it is not below the first key
-unfoldable pub usedKeyOf : Entry → ℕ → Bound → Bound → ℕ → Bool
-usedKeyOf x i next before k = both (betweenOf next before k) (imp (ltb 0 i) (leb (x .first .0) k))
 
 -- of a run whose first key stands at position p and of used slots, merged: each key
 unfoldable pub keptOf : ℕ → Entry → ℕ → Bound → Bound → ℕ → List ℕ → List ℕ → Bool
@@ -70,15 +54,6 @@ judged Nothing = Good
 -- "Check: 1, 9."
 unfoldable pub checkOf : Store → Checked
 checkOf σ = pick (limitedOf σ) (judged (failsOf (rulesOf σ) 0 (σ .s))) (Refused OutOfLimits)
-
--- ---- what the functions ask
-
--- the numbers of the line and of the place `at` in the run are small
-pub record Placed (x : Entry) (at : ℕ) : Type 0 where
-  pub rise-most : x .rise ≤ riseMost
-  pub run-some : 0 < x .run
-  pub base-most : x .base .0 ≤ nMost
-  pub few : at ≤ nMost
 
 -- the walk has come to m, past a key that bounds the next: what is left decides
 pub record Going (e : ℕ) (x : Entry) (i : ℕ) (next : Bound) (run used : List ℕ) (before : Bound) (m : Cursor) : Type 0 where

@@ -4,7 +4,6 @@ use order::Bound;
 use order::Cursor;
 use order::Next;
 use terms::Entry;
-use terms::Key;
 use terms::Refusal;
 use terms::Sizes;
 ghost use mathlib.Core.Path.{_≡_};
@@ -17,76 +16,7 @@ ghost use Rattle.table.specs.Store.{storeOf};
 ghost use Rattle.table.specs.Entries.{Row};
 ghost use Rattle.order.specs.declared.Bound.the-variants.{Free};
 ghost use Rattle.segment.specs.Lent.{Segment, Lent};
-ghost use Rattle.judge.specs.Check.{Placed, ceilingOf, betweenOf, runKeyOf, usedKeyOf, keptOf, entryRules, rulesOf, checkOf};
-
-// Whether a key of the merged order is a key, above the one before it and below the next first key.
-fn between(next: Bound, before: Bound, k: u64) -> bool
-    ensures { λ (r : Bool). ⌜ r ≡ betweenOf next before k ⌝ }
-{
-    if terms::is_key(k) {
-        if order::above(before, k) {
-            return order::under(next, k);
-        }
-        return false;
-    }
-    false
-}
-
-// A key of the run, at the place `at` in it.
-fn run_key(e: usize, x: Entry, next: Bound, before: Bound, k: u64, at: usize) -> bool
-    requires { ⌜ Placed x at ⌝ }
-    ensures { λ (r : Bool). ⌜ r ≡ runKeyOf e x next before k (x .base .0 + at) ⌝ }
-{
-    let p = x.base.0 + at;
-    if between(next, before, k) {
-        let w = line::window(x, Key(k), e);
-        if p < w.from.0 {
-            return false;
-        }
-        return p < w.to.0;
-    }
-    false
-}
-
-// In a segment after 0 no used key is below the first key.
-fn not_before(i: usize, first: u64, k: u64) -> bool
-    ensures { λ (r : Bool). ⌜ r ≡ imp (ltb 0 i) (leb first k) ⌝ }
-{
-    if i == 0 {
-        return true;
-    }
-    first <= k
-}
-
-// A used key.
-fn used_key(x: Entry, i: usize, next: Bound, before: Bound, k: u64) -> bool
-    ensures { λ (r : Bool). ⌜ r ≡ usedKeyOf x i next before k ⌝ }
-{
-    if between(next, before, k) {
-        return not_before(i, x.first.0, k);
-    }
-    false
-}
-
-// A key of the merged order: of the run, at the place `at` in it, where the cursor moved on there to `past`, else a used one.
-fn key_ok(
-    e: usize,
-    x: Entry,
-    i: usize,
-    next: Bound,
-    before: Bound,
-    k: u64,
-    at: usize,
-    past: usize,
-) -> bool
-    requires { ⌜ Placed x at ⌝ }
-    ensures { λ (r : Bool). ⌜ r ≡ pick (ltb at past) (runKeyOf e x next before k (x .base .0 + at)) (usedKeyOf x i next before k) ⌝ }
-{
-    if at < past {
-        return run_key(e, x, next, before, k, at);
-    }
-    used_key(x, i, next, before, k)
-}
+ghost use Rattle.judge.specs.Check.{ceilingOf, keptOf, entryRules, rulesOf, checkOf};
 
 // Each key of segment i, in merged order: one pass over its run and its used slots, where they lie.
 fn kept(e: usize, x: Entry, i: usize, next: Bound, run: &[u64], used: &[u64]) -> bool
@@ -99,7 +29,7 @@ fn kept(e: usize, x: Entry, i: usize, next: Bound, run: &[u64], used: &[u64]) ->
         let n = m.next(run, used, 0);
         match n {
             Next::Key(k, past) => {
-                if key_ok(e, x, i, next, before, k, m.i, past.i) {
+                if judge_key::key_ok(e, x, i, next, before, k, m.i, past.i) {
                     before = Bound::By(k);
                     m = past;
                 } else {

@@ -24,7 +24,8 @@ use Rattle.line.proofs.Meaning.{near-within, within-near}
 use Rattle.order.specs.declared.Bound.{Bound}
 use Rattle.order.specs.declared.Bound.the-variants.{Free, By}
 use Rattle.order.specs.Bound.{floorOf, underOf}
-use Rattle.judge.specs.Check.{betweenOf, runKeyOf, usedKeyOf, keptOf}
+use Rattle.judge_key.specs.Key.{betweenOf, runKeyOf, usedKeyOf}
+use Rattle.judge.specs.Check.{keptOf}
 use Rattle.judge.proofs.Laws.{kept-none, kept-run, kept-used}
 
 -- ---- the bounds

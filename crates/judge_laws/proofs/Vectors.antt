@@ -13,7 +13,8 @@ use Rattle.table.specs.Damaged.{damagedOf}
 use Rattle.line.specs.Line.{guessOf, windowOf}
 use Rattle.scan.specs.Scan.{firstOf, failsOf}
 use Rattle.answers.specs.declared.Checked.the-variants.{Good, Refused}
-use Rattle.judge.specs.Check.{betweenOf, runKeyOf, usedKeyOf, keptOf, entryRules, rulesOf, checkOf}
+use Rattle.judge_key.specs.Key.{betweenOf, runKeyOf, usedKeyOf}
+use Rattle.judge.specs.Check.{keptOf, entryRules, rulesOf, checkOf}
 
 -- with this first key of segment 1, and this key in its first slot, of which it holds so many
 abbrev printed : ℕ → ℕ → ℕ → Store

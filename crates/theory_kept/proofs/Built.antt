@@ -23,7 +23,7 @@ use Rattle.cutting.proofs.Rows.{rows-length}
 use Rattle.answers.specs.declared.Built.{Built}
 use Rattle.answers.specs.declared.Built.the-variants.{Made}
 use Rattle.build.specs.Build.{Takes, builtOf, tableBy}
-use Rattle.build.proofs.Faults.{good-cuttable}
+use Rattle.build.proofs.Laws.{good-cuttable}
 use Rattle.build_laws.specs.Builds.{Builds, Accepted as Taken}
 use Rattle.build_laws.proofs.Meaning.{answers, made-accepted}
 use Rattle.theory_segments.specs.Seg.{Seg, Chain, Cutting}
