@@ -6,8 +6,8 @@ use readstore_numbers::inserted_numbers;
 use readstore_numbers::loaded_numbers;
 use readstore_numbers::looked_numbers;
 use readstore_numbers::ranged_numbers;
+use readstore_numbers::sizes_of;
 use readstore_numbers::written_numbers;
-use terms::Sizes;
 ghost use mathlib.Core.Path.{_≡_};
 ghost use lib.ListN.{length};
 ghost use Rattle.terms.specs.Limits.{sizesOf};
@@ -22,17 +22,6 @@ ghost use Rattle.insert.specs.Cells.{keysBy as insertedKeys, tableBy as inserte
 ghost use Rattle.image_write.specs.Writing.{writeOf, outBy};
 ghost use Rattle.image_read.specs.Loading.{loadOf, keysBy, tableBy as loadedTable, buffersBy};
 ghost use Rattle.readstore_numbers.specs.Numbers.{builtNumbers, checkedNumbers, lookedNumbers, rangedNumbers, insertedNumbers, writtenNumbers, loadedNumbers};
-
-// The four numbers of a store together.
-fn sizes_of(e: u64, b: u64, n: u64, s: u64) -> Sizes
-    ensures { λ r. ⌜ r ≡ sizesOf e b n s ⌝ }
-{
-    let e = terms::size(e);
-    let b = terms::size(b);
-    let n = terms::size(n);
-    let s = terms::size(s);
-    Sizes { e, b, n, s }
-}
 
 // The first n keys are cut with the bound e, and the entries written. [3] is s.
 #[no_mangle]

@@ -1,8 +1,9 @@
--- The cases of the answers as numbers.
+-- The cases of a store's numbers, and of the answers as numbers.
 -- Assumes nothing.
 use mathlib.Core.Path.{_≡_}
 use mathlib.Core.List.{List}
 use Prim.Native.Nat.{ℕ}
+use Rattle.terms.specs.Limits.{sizesOf}
 use Rattle.terms.specs.declared.Refusal.{Refusal}
 use Rattle.terms.specs.declared.Pos.{Pos}
 use Rattle.terms.specs.Refusals.{numberOf, placeOf}
@@ -21,6 +22,11 @@ use Rattle.answers.specs.declared.Written.the-variants.{Bytes, Refused as NotWr
 use Rattle.answers.specs.declared.Loaded.{Loaded}
 use Rattle.answers.specs.declared.Loaded.the-variants.{Store, Refused as NotLoaded}
 use Rattle.readstore_numbers.specs.Numbers.{eight, refusalNumbers, builtNumbers, checkedNumbers, lookedNumbers, rangedNumbers, insertedNumbers, writtenNumbers, loadedNumbers}
+
+pub sizes-are : (e b n s : ℕ) {e′ b′ n′ s′ : ℕ} → e′ ≡ e → b′ ≡ b → n′ ≡ n → s′ ≡ s → sizesOf e′ b′ n′ s′ ≡ sizesOf e b n s
+sizes-are e b n s p q r t = rw (p, q, r, t)
+
+pub ruleset sizes-cases = sizes-are
 
 pub refusal-are : (r : Refusal) {m p q : ℕ} → m ≡ numberOf r → p ≡ placeOf r → q ≡ p → eight m q 0 0 0 0 0 0 ≡ refusalNumbers r
 unfolding refusalNumbers

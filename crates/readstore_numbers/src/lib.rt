@@ -1,4 +1,5 @@
-// Each answer as the eight numbers that the exports give: [0] the refusal's number, 0 if accepted; [1] its place; [2] a kind; [3].. values; unused ones 0.
+// Numbers as C and Rust pass them: the four of a store, and each answer as the eight that the exports give: [0] the refusal's number, 0 if accepted; [1] its
+// place; [2] a kind; [3].. values; unused ones 0.
 use answers::Built;
 use answers::Checked;
 use answers::Inserted;
@@ -7,8 +8,21 @@ use answers::Looked;
 use answers::Ranged;
 use answers::Written;
 use terms::Refusal;
+use terms::Sizes;
 ghost use mathlib.Core.Path.{_≡_};
+ghost use Rattle.terms.specs.Limits.{sizesOf};
 ghost use Rattle.readstore_numbers.specs.Numbers.{refusalNumbers, builtNumbers, checkedNumbers, lookedNumbers, rangedNumbers, insertedNumbers, writtenNumbers, loadedNumbers};
+
+// The four numbers of a store together.
+pub fn sizes_of(e: u64, b: u64, n: u64, s: u64) -> Sizes
+    ensures { λ r. ⌜ r ≡ sizesOf e b n s ⌝ }
+{
+    let e = terms::size(e);
+    let b = terms::size(b);
+    let n = terms::size(n);
+    let s = terms::size(s);
+    Sizes { e, b, n, s }
+}
 
 fn word(x: usize) -> u64
     ensures { λ r. ⌜ r ≡ x ⌝ }

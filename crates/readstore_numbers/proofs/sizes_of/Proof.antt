@@ -1,6 +1,7 @@
 use borrow.Author.Needs.{needs}
-use Rattle.readstore.proofs.sizes_of.Statement.{statement}
-use Rattle.readstore.proofs.sizes_of.Tie as tie
+use Rattle.readstore_numbers.proofs.Laws.{sizes-cases}
+use Rattle.readstore_numbers.proofs.sizes_of.Statement.{statement}
+use Rattle.readstore_numbers.proofs.sizes_of.Tie as tie
 
 pub sizes-of-spec : {M : Type 1} → statement M
 sizes-of-spec =
@@ -10,4 +11,4 @@ sizes-of-spec =
     (λ c κs. search needs)  -- size-requires-2
     (λ c κs. search needs)  -- size-requires-3
     (λ c κs. search needs)  -- size-requires-4
-    (λ c. cc))
+    (λ c. search (sizes-cases, needs)))
