@@ -7,6 +7,7 @@ use crate::store::Store;
 use compare_plain::cells::at;
 use compare_plain::cells::product;
 use compare_plain::cells::put;
+use compare_plain::cells::put_five;
 use compare_plain::cells::sum;
 
 // Any number below `faces` in every cell.
@@ -31,19 +32,15 @@ fn draw_few(round: u64, lot: u64, keys: &mut [u64], n: u64) -> u64 {
 }
 
 // One entry with small numbers.
-fn draw_entry(round: u64, table: &mut [u64], i: u64) {
+fn draw_entry(round: u64, table: &mut [u64], i: u64, b: u64) {
     let step = product(i, 5);
-    put(table, step, dice(round, sum(3000, step), 14));
-    put(table, sum(step, 1), dice(round, sum(3001, step), 7));
-    put(table, sum(step, 2), dice(round, sum(3002, step), 5));
-    put(table, sum(step, 3), dice(round, sum(3003, step), 6));
-}
-
-// Whether it holds any, apart, so that few calls write one slice.
-fn draw_held(round: u64, table: &mut [u64], i: u64, b: u64) {
-    put(
+    put_five(
         table,
-        sum(product(i, 5), 4),
+        step,
+        dice(round, sum(3000, step), 14),
+        dice(round, sum(3001, step), 7),
+        dice(round, sum(3002, step), 5),
+        dice(round, sum(3003, step), 6),
         dice(round, sum(3400, i), sum(b, 1)),
     );
 }
@@ -51,8 +48,7 @@ fn draw_held(round: u64, table: &mut [u64], i: u64, b: u64) {
 // Every entry of the table.
 fn draw_table(round: u64, table: &mut [u64], s: u64, b: u64) {
     for i in 0..s {
-        draw_entry(round, table, i);
-        draw_held(round, table, i, b);
+        draw_entry(round, table, i, b);
     }
 }
 

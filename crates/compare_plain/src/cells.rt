@@ -99,10 +99,10 @@ pub fn put_five(s: &mut [u64], i: u64, x: u64, y: u64, z: u64, u: u64, v: u64) {
     put(s, sum(i, 4), v);
 }
 
-// The first m cells of one slice, copied to another from its place `to` on.
-pub fn copy(from: &[u64], m: u64, dst: &mut [u64], to: u64) {
+// m cells of one slice from its place `start` on, copied to another from its place `to` on.
+pub fn copy(from: &[u64], start: u64, m: u64, dst: &mut [u64], to: u64) {
     for i in 0..m {
-        put(dst, sum(to, i), at(from, i));
+        put(dst, sum(to, i), at(from, sum(start, i)));
     }
 }
 
@@ -119,6 +119,16 @@ pub fn rising(list: &[u64], m: u64) -> bool {
         }
     }
     true
+}
+
+// Whether some number of list[from..to] is at least k.
+pub fn reaches(list: &[u64], from: u64, to: u64, k: u64) -> bool {
+    for i in from..to {
+        if k <= at(list, i) {
+            return true;
+        }
+    }
+    false
 }
 
 // How many of the first m numbers are below k.

@@ -102,7 +102,7 @@ pub fn build(e: u64, b: u64, n: u64, keys: &[u64], table: &mut [u64], buffers: &
         if segment_room(b, table, buffers) < t {
             return refused(7, 0);
         }
-        copy(&entries, product(t, 5), table, 0);
+        copy(&entries, 0, product(t, 5), table, 0);
         return answer(0, t, 0, 0, 0);
     }
     refused(1, 0)

@@ -8,6 +8,7 @@ use compare_plain::cells::product;
 use compare_plain::cells::put;
 use compare_plain::cells::put_byte;
 use compare_plain::cells::put_five;
+use compare_plain::cells::reaches;
 use compare_plain::cells::refused;
 use compare_plain::cells::sum;
 use compare_plain::segment::base;
@@ -19,7 +20,6 @@ use compare_plain::segment::limits;
 use compare_plain::segment::rise;
 use compare_plain::segment::run;
 use compare_plain::segment::segment_room;
-use compare_plain::segment::slot;
 
 // ---- writing
 
@@ -49,9 +49,10 @@ fn put_head(out: &mut [u8], e: u64, b: u64, n: u64, s: u64) {
     put_two(out, 5, n, s);
 }
 
-fn put_keys(out: &mut [u8], keys: &[u64], n: u64) {
-    for p in 0..n {
-        put_record(out, sum(9, product(p, 7)), 2, 6, at(keys, p));
+// `count` records of a key from p on, of the cells from c on.
+fn put_keys(out: &mut [u8], p: u64, kind: u64, cells: &[u64], c: u64, count: u64) {
+    for j in 0..count {
+        put_record(out, sum(p, product(j, 7)), kind, 6, at(cells, sum(c, j)));
     }
 }
 
@@ -66,12 +67,6 @@ fn put_segment(out: &mut [u8], p: u64, table: &[u64], i: u64) {
     put_byte(out, sum(p, 17), held(table, i));
 }
 
-fn put_used(out: &mut [u8], p: u64, b: u64, buffers: &[u64], i: u64, used: u64) {
-    for j in 0..used {
-        put_record(out, sum(p, product(j, 7)), 4, 6, slot(b, buffers, i, j));
-    }
-}
-
 // The bytes of segment i and its used slots.
 fn segment_bytes(table: &[u64], i: u64) -> u64 {
     sum(18, product(held(table, i), 7))
@@ -81,7 +76,7 @@ fn put_segments(out: &mut [u8], from: u64, b: u64, s: u64, table: &[u64], buffer
     let mut p = from;
     for i in 0..s {
         put_segment(out, p, table, i);
-        put_used(out, sum(p, 18), b, buffers, i, held(table, i));
+        put_keys(out, sum(p, 18), 4, buffers, product(i, b), held(table, i));
         p = sum(p, segment_bytes(table, i));
     }
     put_byte(out, p, 9);
@@ -96,21 +91,14 @@ fn image_bytes(n: u64, s: u64, table: &[u64]) -> u64 {
     sum(p, 1)
 }
 
-// Whether a used key of segment i needs over 6 bytes.
-fn wide_used(b: u64, buffers: &[u64], i: u64, used: u64) -> bool {
-    for j in 0..used {
-        if 281474976710656 <= slot(b, buffers, i, j) {
-            return true;
-        }
-    }
-    false
-}
+// The least number that needs over 6 bytes.
+const WIDE: u64 = 281474976710656;
 
 fn wide_field(b: u64, table: &[u64], i: u64) -> bool {
     if b <= held(table, i) {
         return true;
     }
-    if 281474976710656 <= first(table, i) {
+    if WIDE <= first(table, i) {
         return true;
     }
     if 65536 <= base(table, i) {
@@ -119,29 +107,21 @@ fn wide_field(b: u64, table: &[u64], i: u64) -> bool {
     if 65536 <= rise(table, i) {
         return true;
     }
-    281474976710656 <= run(table, i)
+    WIDE <= run(table, i)
 }
 
-// The lowest entry that does not fit, s if it is a key of a run, NONE if all do.
+// The lowest entry that does not fit, NONE if all do.
 fn lowest_wide(b: u64, s: u64, table: &[u64], buffers: &[u64]) -> u64 {
     for i in 0..s {
         if wide_field(b, table, i) {
             return i;
         }
-        if wide_used(b, buffers, i, held(table, i)) {
+        let from = product(i, b);
+        if reaches(buffers, from, sum(from, held(table, i)), WIDE) {
             return i;
         }
     }
     NONE
-}
-
-fn wide_key(keys: &[u64], n: u64) -> bool {
-    for p in 0..n {
-        if 281474976710656 <= at(keys, p) {
-            return true;
-        }
-    }
-    false
 }
 
 fn written(
@@ -159,7 +139,7 @@ fn written(
         return refused(8, 0);
     }
     put_head(out, e, b, n, s);
-    put_keys(out, keys, n);
+    put_keys(out, 9, 2, keys, 0, n);
     put_segments(out, sum(9, product(n, 7)), b, s, table, buffers);
     answer(0, length, 0, 0, 0)
 }
@@ -179,7 +159,7 @@ pub fn write(
         if i < NONE {
             return refused(9, i);
         }
-        if wide_key(keys, n) {
+        if reaches(keys, 0, n, WIDE) {
             return refused(9, s);
         }
         return written(e, b, n, s, keys, table, buffers, out);

@@ -2,7 +2,9 @@
 use compare_plain::cells::NONE;
 use compare_plain::cells::above;
 use compare_plain::cells::answer;
+use compare_plain::cells::copy;
 use compare_plain::cells::count_below;
+use compare_plain::cells::product;
 use compare_plain::cells::refused;
 use compare_plain::cells::rising;
 use compare_plain::cells::sum;
@@ -17,7 +19,6 @@ use compare_plain_build::cut;
 use compare_plain_moves::buffered;
 use compare_plain_moves::joined;
 use compare_plain_moves::merged;
-use compare_plain_moves::used_list;
 use compare_plain_reads::looking::finds;
 
 // The lowest entry after i with a base above n or held not below B.
@@ -80,7 +81,7 @@ fn judged_segment(
 ) -> [u64; 8] {
     let mut list = [0u64; 80];
     let used = held(table, i);
-    used_list(b, buffers, i, used, &mut list);
+    copy(buffers, product(i, b), used, &mut list, 0);
     if !rising(&list, used) {
         return refused(9, i);
     }

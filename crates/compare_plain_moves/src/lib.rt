@@ -1,6 +1,5 @@
 // What an insert makes and writes, from document 01 alone: everything is made anew in a list of its own, then copied back.
 use compare_plain::cells::above;
-use compare_plain::cells::at;
 use compare_plain::cells::copy;
 use compare_plain::cells::count_below;
 use compare_plain::cells::product;
@@ -14,33 +13,18 @@ use compare_plain::segment::first;
 use compare_plain::segment::held;
 use compare_plain::segment::rise;
 use compare_plain::segment::run;
-use compare_plain::segment::slot;
 use compare_plain_build::cut;
 use compare_plain_reads::merge::merge;
 
-// The used slots of segment i, in the list from its start.
-pub fn used_list(b: u64, buffers: &[u64], i: u64, used: u64, list: &mut [u64]) {
-    for j in 0..used {
-        put(list, j, slot(b, buffers, i, j));
-    }
-}
-
-// The first m keys of a list, with k put in at its rising place, in another.
-fn with_key(list: &[u64], m: u64, k: u64, longer: &mut [u64]) {
-    let place = count_below(list, m, k);
-    copy(list, m, longer, 0);
-    for j in place..m {
-        put(longer, sum(j, 1), at(list, j));
-    }
-    put(longer, place, k);
-}
-
 // The used slots of segment i with k at its rising place among them, in the list from its start.
-fn seated(b: u64, table: &[u64], buffers: &[u64], i: u64, k: u64, longer: &mut [u64]) {
-    let mut list = [0u64; 80];
-    let used = held(table, i);
-    used_list(b, buffers, i, used, &mut list);
-    with_key(&list, used, k, longer);
+fn seated(b: u64, table: &[u64], buffers: &[u64], i: u64, k: u64, list: &mut [u64]) {
+    let mut used = [0u64; 80];
+    let count = held(table, i);
+    copy(buffers, product(i, b), count, &mut used, 0);
+    let place = count_below(&used, count, k);
+    copy(&used, 0, place, list, 0);
+    put(list, place, k);
+    copy(&used, place, above(count, place), list, sum(place, 1));
 }
 
 // The run, the used slots and k as one list, from its start. Its length.
@@ -64,13 +48,6 @@ pub fn joined(
     m
 }
 
-// Keys from `to` to n move up by B.
-fn moved_keys(keys: &[u64], b: u64, n: u64, to: u64, list: &mut [u64]) {
-    for p in to..n {
-        put(list, sum(p, b), at(keys, p));
-    }
-}
-
 // Entry j moves by d places, and its base grows by B.
 fn moved_entry(table: &[u64], b: u64, j: u64, d: u64, list: &mut [u64]) {
     put_five(
@@ -91,17 +68,17 @@ fn moved_entries(table: &[u64], b: u64, s: u64, i: u64, d: u64, list: &mut [u64]
     }
 }
 
-// The used slots of segment j move by d segments.
-fn moved_used(buffers: &[u64], b: u64, j: u64, d: u64, used: u64, list: &mut [u64]) {
-    for x in 0..used {
-        put(list, sum(product(sum(j, d), b), x), slot(b, buffers, j, x));
-    }
-}
-
+// The used slots of later segments move by d segments.
 fn moved_slots(buffers: &[u64], table: &[u64], b: u64, s: u64, i: u64, d: u64, list: &mut [u64]) {
     let next = sum(i, 1);
     for j in next..s {
-        moved_used(buffers, b, j, d, held(table, j), list);
+        copy(
+            buffers,
+            product(j, b),
+            held(table, j),
+            list,
+            product(sum(j, d), b),
+        );
     }
 }
 
@@ -109,29 +86,29 @@ fn moved_slots(buffers: &[u64], table: &[u64], b: u64, s: u64, i: u64, d: u64, l
 fn new_keys(keys: &mut [u64], b: u64, n: u64, from: u64, to: u64, list: &[u64], m: u64) {
     let mut work = [0u64; 256];
     let all = size(keys);
-    copy(keys, all, &mut work, 0);
-    moved_keys(keys, b, n, to, &mut work);
-    copy(list, m, &mut work, from);
-    copy(&work, all, keys, 0);
+    copy(keys, 0, all, &mut work, 0);
+    copy(keys, to, above(n, to), &mut work, sum(to, b));
+    copy(list, 0, m, &mut work, from);
+    copy(&work, 0, all, keys, 0);
 }
 
 // The merge's slots: those of later segments moved.
 fn new_slots(buffers: &mut [u64], table: &[u64], b: u64, s: u64, i: u64, d: u64) {
     let mut work = [0u64; 512];
     let all = size(buffers);
-    copy(buffers, all, &mut work, 0);
+    copy(buffers, 0, all, &mut work, 0);
     moved_slots(buffers, table, b, s, i, d, &mut work);
-    copy(&work, all, buffers, 0);
+    copy(&work, 0, all, buffers, 0);
 }
 
 // The merge's table: t new entries at i, and what follows moved.
 fn new_table(table: &mut [u64], b: u64, s: u64, i: u64, entries: &[u64], t: u64) {
     let mut work = [0u64; 320];
     let all = size(table);
-    copy(table, all, &mut work, 0);
+    copy(table, 0, all, &mut work, 0);
     moved_entries(table, b, s, i, above(t, 1), &mut work);
-    copy(entries, product(t, 5), &mut work, product(i, 5));
-    copy(&work, all, table, 0);
+    copy(entries, 0, product(t, 5), &mut work, product(i, 5));
+    copy(&work, 0, all, table, 0);
 }
 
 // k in its rising place in the used slots of segment i; held grows by one.
@@ -139,7 +116,7 @@ pub fn buffered(b: u64, table: &mut [u64], buffers: &mut [u64], i: u64, k: u64) 
     let mut longer = [0u64; 80];
     seated(b, table, buffers, i, k, &mut longer);
     let used = sum(held(table, i), 1);
-    copy(&longer, used, buffers, product(i, b));
+    copy(&longer, 0, used, buffers, product(i, b));
     put(table, sum(product(i, 5), 4), used);
 }
 

@@ -1,5 +1,5 @@
 use borrow.Author.Needs.{needs}
-use Prim.Native.Nat.{_≤_, _-_}
+use Prim.Native.Nat.{_-_, _≤_}
 use Rattle.compare_plain_image.proofs.lowest_wide.Statement.{statement}
 use Rattle.compare_plain_image.proofs.lowest_wide.Tie as tie
 
@@ -18,8 +18,10 @@ lowest-wide-spec =
     (λ c. search needs)  -- loop-holds
     (λ c κs. search needs)  -- wide-field-requires
     (λ c. search needs)  -- returns
+    (λ c κs. search needs)  -- product-requires
     (λ c κs. search needs)  -- held-requires
-    (λ c κs. search needs)  -- wide-used-requires
+    (λ c κs. search needs)  -- sum-requires
+    (λ c κs. search needs)  -- reaches-requires
     (λ c. search needs)  -- returns-2
     (λ c. search needs)  -- add-i
     (λ c. search needs)  -- loop-less

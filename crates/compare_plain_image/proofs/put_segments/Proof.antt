@@ -1,7 +1,7 @@
 use borrow.Author.Needs.{needs}
 use mathlib.Core.Path.{_≡_}
-use lib.ListN.{length}
 use Prim.Native.Nat.{_-_}
+use lib.ListN.{length}
 use Rattle.compare_plain_image.proofs.put_segments.Statement.{statement}
 use Rattle.compare_plain_image.proofs.put_segments.Tie as tie
 
@@ -20,8 +20,9 @@ put-segments-spec =
     (λ c. search needs)  -- loop-holds
     (λ c κs. search needs)  -- put-segment-requires
     (λ c κs. search needs)  -- sum-requires
+    (λ c κs. search needs)  -- product-requires
     (λ c κs. search needs)  -- held-requires
-    (λ c κs. search needs)  -- put-used-requires
+    (λ c κs. search needs)  -- put-keys-requires
     (λ c κs. search needs)  -- segment-bytes-requires
     (λ c κs. search needs)  -- sum-requires-2
     (λ c. search needs)  -- add-i

@@ -1,7 +1,7 @@
 use borrow.Author.Needs.{needs}
 use mathlib.Core.Path.{_≡_}
-use lib.ListN.{length}
 use Prim.Native.Nat.{_-_}
+use lib.ListN.{length}
 use Rattle.compare_plain_moves.proofs.moved_slots.Statement.{statement}
 use Rattle.compare_plain_moves.proofs.moved_slots.Tie as tie
 
@@ -19,8 +19,11 @@ moved-slots-spec =
     μ-loop
     (λ c κs. search needs)  -- sum-requires
     (λ c. search needs)  -- loop-holds
+    (λ c κs. search needs)  -- product-requires
     (λ c κs. search needs)  -- held-requires
-    (λ c κs. search needs)  -- moved-used-requires
+    (λ c κs. search needs)  -- sum-requires-2
+    (λ c κs. search needs)  -- product-requires-2
+    (λ c κs. search needs)  -- copy-requires
     (λ c. search needs)  -- add-j
     (λ c. search needs)  -- loop-less
     (λ c. search needs)  -- loop-again

@@ -6,10 +6,10 @@ use Rattle.compare_plain.proofs.cells.copy.Statement.{statement}
 use Rattle.compare_plain.proofs.cells.copy.Tie as tie
 
 abbrev Inv-loop : tie.InvT-loop
-Inv-loop from m dst₀ to i₀ dst i = length dst ≡ length dst₀
+Inv-loop from start m dst₀ to i₀ dst i = length dst ≡ length dst₀
 
 abbrev μ-loop : tie.MeasureT-loop
-μ-loop from m dst₀ to i₀ dst i = m - i
+μ-loop from start m dst₀ to i₀ dst i = m - i
 
 pub copy-spec : {M : Type 1} → statement M
 copy-spec =
@@ -19,6 +19,7 @@ copy-spec =
     μ-loop
     (λ c. search needs)  -- loop-holds
     (λ c κs. search needs)  -- sum-requires
+    (λ c κs. search needs)  -- sum-requires-2
     (λ c κs. search needs)  -- at-requires
     (λ c κs. search needs)  -- put-requires
     (λ c. search needs)  -- add-i
