@@ -9,7 +9,7 @@ use scan::Found;
 use terms::Refusal;
 
 // Whether the keys can be cut into the table, or why not.
-#[derive(Drop)]
+#[derive(Clone, Copy)]
 pub enum Judged {
     Clear,
     Faulty(Refusal),

@@ -8,7 +8,7 @@ ghost use Rattle.choose.specs.Picked.{picked_of};
 use terms::{Entry, Key, Sizes};
 
 // The chosen segment with its entry, or the news that this entry is damaged.
-#[derive(Drop)]
+#[derive(Clone, Copy)]
 pub enum Picked {
     Sound(usize, Entry),
     Wrong(usize),

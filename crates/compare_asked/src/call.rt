@@ -2,7 +2,7 @@
 ghost use Rattle.std.specs.Prelude.{◌≤◌};
 
 // `room` is how much is lent to be written, `length` how much of an image is to be read.
-#[derive(Drop)]
+#[derive(Clone, Copy)]
 pub enum Call {
     Build,
     Check,
@@ -14,7 +14,7 @@ pub enum Call {
 }
 
 // The same in numbers, 0 where a call takes none: its kind, its key or lower end, its upper end, and how much is lent beside the store.
-#[derive(Drop)]
+#[derive(Clone, Copy)]
 pub struct Asked {
     pub kind: usize,
     pub key: u64,

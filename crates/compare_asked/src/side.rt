@@ -3,7 +3,7 @@ use crate::call::Asked;
 use compare_draws::store::{Store, same_cells, same_store};
 
 // A side's answer, the store as it left it, and what it wrote beside it.
-#[derive(Drop)]
+#[derive(Clone, Copy)]
 pub struct Side {
     pub answer: [u64; 8],
     pub store: Store,

@@ -3,7 +3,7 @@ use crate::dice::{dice, wild};
 use compare_plain::cells::sum;
 
 // The numbers of a store, and the lengths that are lent of its keys, its table and its slots.
-#[derive(Drop)]
+#[derive(Clone, Copy)]
 pub struct Shape {
     pub e: u64,
     pub b: u64,
@@ -15,7 +15,7 @@ pub struct Shape {
 }
 
 // A store whose slices are the first so many cells of these.
-#[derive(Drop)]
+#[derive(Clone, Copy)]
 pub struct Store {
     pub shape: Shape,
     pub keys: [u64; 256],

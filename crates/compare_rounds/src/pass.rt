@@ -3,7 +3,7 @@ use compare_plain::cells::{product, sum};
 
 // Builds; lookups, with checks and ranges among them; inserts with, it may be, a wrong number, and inserts without; lookups as before; images.
 // `name` stands for the pass in all that is drawn.
-#[derive(Drop)]
+#[derive(Clone, Copy)]
 pub struct Pass {
     pub name: u64,
     pub builds: u64,

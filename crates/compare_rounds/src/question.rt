@@ -8,7 +8,7 @@ use compare_plain::cells::{above, sum};
 
 // What comes of an answer: nothing; a later call of the pass needs the number that it has; one key of the list more goes wrong; the store is the one
 // that was cut; or, where the insert was accepted, the one that it left.
-#[derive(Drop)]
+#[derive(Clone, Copy)]
 pub enum Then {
     Nothing,
     Keep,
@@ -18,7 +18,7 @@ pub enum Then {
 }
 
 // A call, of a store.
-#[derive(Drop)]
+#[derive(Clone, Copy)]
 pub struct Question {
     pub call: Call,
     pub of: Store,
@@ -26,7 +26,7 @@ pub struct Question {
 }
 
 // Where a pass has come to: its store, and the number that was kept.
-#[derive(Drop)]
+#[derive(Clone, Copy)]
 pub struct At {
     pub store: Store,
     pub kept: u64,

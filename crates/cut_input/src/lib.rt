@@ -7,14 +7,14 @@ use terms::Refusal;
 use text::Line;
 
 // How many keys there are, or the earliest faulty line.
-#[derive(Drop)]
+#[derive(Clone, Copy)]
 pub enum Keys {
     Count(usize),
     Refused(Refusal),
 }
 
 // The bound, the buffer size and the number of keys, or the earliest faulty line.
-#[derive(Drop)]
+#[derive(Clone, Copy)]
 pub enum Listed {
     List { e: usize, b: usize, n: usize },
     Refused(Refusal),

@@ -128,7 +128,7 @@ fn rest(bytes: &[u8], f: Layout, z: Sizes, at: usize) -> Walked
 }
 
 // What the judging pass says: the four numbers of a well-formed image, or the refusal.
-#[derive(Drop)]
+#[derive(Clone, Copy)]
 pub enum Judged {
     Well(Sizes),
     Refused(Refusal),

@@ -14,7 +14,7 @@ use terms::{Entry, Key, Pos, Refusal, Sizes};
 // ---- what becomes of a key in its segment, from the entry and the lent parts alone
 
 // The used slots or the merged list do not rise; the key is there; it goes to a slot; or a merge makes so many segments.
-#[derive(Drop)]
+#[derive(Clone, Copy)]
 pub enum Weighed {
     Disordered,
     There,
@@ -75,7 +75,7 @@ pub fn weigh(e: usize, b: usize, x: Entry, run: &[u64], used: &[u64], k: Key) ->
 
 // What is to be done: k goes to a slot of segment i, or that segment is merged and cut into so many; in both x is its entry, as it was
 // read. Or nothing is.
-#[derive(Drop)]
+#[derive(Clone, Copy)]
 pub enum Decided {
     Put(usize, Entry, usize),
     Merge(usize, Entry, usize),

@@ -9,7 +9,7 @@ use order::{Cursor, Next};
 use terms::Key;
 
 // How many segments the keys are cut into, or that they are not strictly rising and below the limit.
-#[derive(Drop)]
+#[derive(Clone, Copy)]
 pub enum Cutting {
     Pieces(usize),
     Unruly,
@@ -26,7 +26,7 @@ fn after(before: u64, x: u64) -> bool
 }
 
 // How far the counting has come: the cursor, the key before it, how many segments are closed, and the cone of the open one.
-#[derive(Drop)]
+#[derive(Clone, Copy)]
 pub struct Walked {
     pub at: Cursor,
     pub last: u64,
@@ -34,7 +34,7 @@ pub struct Walked {
     pub cone: Cone,
 }
 
-#[derive(Drop)]
+#[derive(Clone, Copy)]
 pub enum Taken {
     To(Walked),
     Fallen,
@@ -73,7 +73,7 @@ fn count_key(e: usize, w: Walked, x: u64, past: Cursor, run: &[u64], used: &[u64
 }
 
 // What comes of the walk with the next key, whichever it is: it goes on, or it ends with so many segments.
-#[derive(Drop)]
+#[derive(Clone, Copy)]
 pub enum Turn {
     On(Walked),
     Over(usize),

@@ -5,21 +5,21 @@ ghost use Rattle.line.specs.Line.{Lined, Reaching, guess_of, near_of, window_of,
 use terms::{Entry, Key, Pos};
 
 // A guess, or the news that the key is below the first key and has none.
-#[derive(Drop)]
+#[derive(Clone, Copy)]
 pub enum Guessed {
     NoGuess,
     At(Pos),
 }
 
 // The positions from `from` up to, and without, `to`.
-#[derive(Drop)]
+#[derive(Clone, Copy)]
 pub struct Span {
     pub from: Pos,
     pub to: Pos,
 }
 
 // Places of a segment's run, counted from its start: from `from` up to, and without, `to`.
-#[derive(Drop)]
+#[derive(Clone, Copy)]
 pub struct Places {
     pub from: usize,
     pub to: usize,

@@ -15,14 +15,14 @@ use order::{Bound, Cursor, Next};
 use terms::{Key, Sizes};
 
 // What a walk over a segment found: its last key, and how many keys from low to high were seen with it; or a key that does not follow.
-#[derive(Drop)]
+#[derive(Clone, Copy)]
 pub enum Walked {
     Rose { last: Bound, seen: usize },
     Fell,
 }
 
 // What the stretch is: wrong, at this segment; or right, with so many keys from low to high.
-#[derive(Drop)]
+#[derive(Clone, Copy)]
 pub enum Judged {
     WrongAt(usize),
     Counts(usize),

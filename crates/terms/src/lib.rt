@@ -19,15 +19,15 @@ pub const S_MOST: usize = 8192;
 pub const RISE_MOST: u64 = 65535;
 
 // A key and a position are kept apart: one is a time, the other a place in a list, and their sum does not type.
-#[derive(Drop)]
+#[derive(Clone, Copy)]
 pub struct Key(pub u64);
 
 // A position in the key slice.
-#[derive(Drop)]
+#[derive(Clone, Copy)]
 pub struct Pos(pub usize);
 
 // A segment's five numbers and its end: the next segment's base, or n for the last.
-#[derive(Drop)]
+#[derive(Clone, Copy)]
 pub struct Entry {
     pub first: Key,
     pub base: Pos,
@@ -38,7 +38,7 @@ pub struct Entry {
 }
 
 // The four numbers of a store: the error bound, the buffer size, how many keys stand in runs, and how many segments.
-#[derive(Drop)]
+#[derive(Clone, Copy)]
 pub struct Sizes {
     pub e: usize,
     pub b: usize,
@@ -68,7 +68,7 @@ pub fn is_key(x: u64) -> bool
 }
 
 // A case for each number of 01's table; those with a place hold it.
-#[derive(Drop)]
+#[derive(Clone, Copy)]
 pub enum Refusal {
     // 1: e, B, n or s outside its limits, or a slice that is too short
     Limits,

@@ -8,7 +8,7 @@ ghost use Rattle.text.specs.Decimal.{width_of, decimal_of};
 pub const DIGITS_MOST: usize = 14;
 
 // What a byte is to a line.
-#[derive(Drop)]
+#[derive(Clone, Copy)]
 pub enum Symbol {
     Digit(u64),
     Newline,
@@ -16,7 +16,7 @@ pub enum Symbol {
 }
 
 // What stands at a place of the text.
-#[derive(Drop)]
+#[derive(Clone, Copy)]
 pub enum Line {
     // A number, and the place past its newline.
     Number(u64, usize),

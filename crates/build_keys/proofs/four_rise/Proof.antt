@@ -8,30 +8,30 @@ pub four_rise_spec : {M : Type 1} → statement M
 four_rise_spec =
     tie.close
     (tie.spec
-    (λ c. search rules)  -- mul-if1
-    (λ c. search rules)  -- shared-slice-read-if1
-    (λ c. search rules)  -- sub-if1
-    (λ c. search rules)  -- mul-if1-2
-    (λ c. search rules)  -- shared-slice-read-if1-2
-    (λ c. four_no _ _ (λ h. omega arith))  -- returns
-    (λ c. search rules)  -- add-if2
-    (λ c. search rules)  -- mul-if2
-    (λ c. search rules)  -- shared-slice-read-if2
-    (λ c. search rules)  -- mul-if2-2
-    (λ c. search rules)  -- shared-slice-read-if2-2
-    (λ c. four_no _ _ (λ h. omega arith))  -- returns-2
-    (λ c. search rules)  -- add-if3
-    (λ c. search rules)  -- mul-if3
-    (λ c. search rules)  -- shared-slice-read-if3
-    (λ c. search rules)  -- add-if3-2
-    (λ c. search rules)  -- mul-if3-2
-    (λ c. search rules)  -- shared-slice-read-if3-2
-    (λ c. four_no _ _ (λ h. omega arith))  -- returns-3
-    (λ c. search rules)  -- add-if4
-    (λ c. search rules)  -- mul-if4
-    (λ c. search rules)  -- shared-slice-read-if4
-    (λ c. search rules)  -- add-if4-2
-    (λ c. search rules)  -- mul-if4-2
-    (λ c. search rules)  -- shared-slice-read-if4-2
-    (λ c. four_no _ _ (λ h. omega arith))  -- returns-4
-    (λ c. four_yes _ _ (omega arith)))
+    (λ c. search rules)  -- offset_bounds-keys-p
+    (λ c. search rules)  -- bounds-keys-p
+    (λ c. search rules)  -- overflow_sub-p
+    (λ c. search rules)  -- offset_bounds-keys-p-2
+    (λ c. search rules)  -- bounds-keys-p-2
+    (λ c. four_no _ _ (λ h. omega arith))  -- returns-then-keys-p
+    (λ c. search rules)  -- overflow_add-p
+    (λ c. search rules)  -- offset_bounds-keys-p-3
+    (λ c. search rules)  -- bounds-keys-p-3
+    (λ c. search rules)  -- offset_bounds-keys-p-4
+    (λ c. search rules)  -- bounds-keys-p-4
+    (λ c. four_no _ _ (λ h. omega arith))  -- returns-then-keys-p-2
+    (λ c. search rules)  -- overflow_add-p-2
+    (λ c. search rules)  -- offset_bounds-keys-p-5
+    (λ c. search rules)  -- bounds-keys-p-5
+    (λ c. search rules)  -- overflow_add-p-3
+    (λ c. search rules)  -- offset_bounds-keys-p-6
+    (λ c. search rules)  -- bounds-keys-p-6
+    (λ c. four_no _ _ (λ h. omega arith))  -- returns-then-keys-p-3
+    (λ c. search rules)  -- overflow_add-p-4
+    (λ c. search rules)  -- offset_bounds-keys-p-7
+    (λ c. search rules)  -- bounds-keys-p-7
+    (λ c. search rules)  -- overflow_add-p-5
+    (λ c. search rules)  -- offset_bounds-keys-p-8
+    (λ c. search rules)  -- bounds-keys-p-8
+    (λ c. four_no _ _ (λ h. omega arith))  -- returns-then-keys-p-4
+    (λ c. four_yes _ _ (omega arith)))  -- returns

@@ -7,12 +7,12 @@ pub good_spec : {M : Type 1} → statement M
 good_spec =
     tie.close
     (tie.spec
-    (λ c. search (good_cases, rules))  -- mul-key
-    (λ c. search (good_cases, rules))  -- shared-slice-read-key
-    (λ c κs. search (good_cases, rules))  -- is-key-requires
-    (λ c. search (good_cases, rules))  -- sub-result
-    (λ c. search (good_cases, rules))  -- mul-result
-    (λ c. search (good_cases, rules))  -- shared-slice-read-result
-    (λ c. search (good_cases, rules))  -- returns
-    (λ c. search (good_cases, rules))  -- returns-2
-    (λ c. search (good_cases, rules)))
+    (λ c. search (good_cases, rules))  -- offset_bounds-keys-p
+    (λ c. search (good_cases, rules))  -- bounds-keys-p
+    (λ c κs. search (good_cases, rules))  -- is_key-requires
+    (λ c. search (good_cases, rules))  -- overflow_sub-result
+    (λ c. search (good_cases, rules))  -- offset_bounds-keys-p-then-p-gt0
+    (λ c. search (good_cases, rules))  -- bounds-keys-p-then-p-gt0
+    (λ c. search (good_cases, rules))  -- returns-then-p-gt0
+    (λ c. search (good_cases, rules))  -- returns-then-is_key
+    (λ c. search (good_cases, rules)))  -- returns

@@ -7,10 +7,10 @@ pub good_front_spec : {M : Type 1} → statement M
 good_front_spec =
     tie.close
     (tie.spec
-    (λ c κs. search (good_front_cases, rules))  -- rising-front-requires
-    (λ c. search (good_front_cases, rules))  -- returns
-    (λ c. search (good_front_cases, rules))  -- mul-is-key
-    (λ c. search (good_front_cases, rules))  -- shared-slice-read-is-key
-    (λ c κs. search (good_front_cases, rules))  -- is-key-requires
-    (λ c. search (good_front_cases, rules))  -- returns-2
-    (λ c. search (good_front_cases, rules)))
+    (λ c κs. search (good_front_cases, rules))  -- rising_front-p-requires
+    (λ c. search (good_front_cases, rules))  -- returns-then-p-lt1
+    (λ c. search (good_front_cases, rules))  -- offset_bounds-keys-p
+    (λ c. search (good_front_cases, rules))  -- bounds-keys-p
+    (λ c κs. search (good_front_cases, rules))  -- is_key-requires
+    (λ c. search (good_front_cases, rules))  -- returns-then-is_key
+    (λ c. search (good_front_cases, rules)))  -- returns

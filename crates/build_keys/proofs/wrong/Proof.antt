@@ -7,8 +7,8 @@ pub wrong_spec : {M : Type 1} → statement M
 wrong_spec =
     tie.close
     (tie.spec
-    (λ c. search (wrong_cases, rules))  -- mul-is-key
-    (λ c. search (wrong_cases, rules))  -- shared-slice-read-is-key
-    (λ c κs. search (wrong_cases, rules))  -- is-key-requires
-    (λ c. search (wrong_cases, rules))  -- returns
-    (λ c. search (wrong_cases, rules)))
+    (λ c. search (wrong_cases, rules))  -- offset_bounds-keys-p
+    (λ c. search (wrong_cases, rules))  -- bounds-keys-p
+    (λ c κs. search (wrong_cases, rules))  -- is_key-requires
+    (λ c. search (wrong_cases, rules))  -- returns-then-is_key
+    (λ c. search (wrong_cases, rules)))  -- returns

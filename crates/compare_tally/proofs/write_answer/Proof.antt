@@ -2,18 +2,18 @@ use Rattle.std.proofs.Common.{◌-◌, ◌≤◌, rules}
 use Rattle.compare_tally.proofs.write_answer.Statement.{statement}
 use Rattle.compare_tally.proofs.write_answer.Tie as tie
 
-abbrev invariant-loop : tie.invariant-loop
-invariant-loop a i₀ t4 i = 0 ≤ i
+abbrev invariant-loop-i : tie.invariant-loop-i
+invariant-loop-i a i₀ t4 i = 0 ≤ i
 
-abbrev decreases-loop : tie.decreases-loop
-decreases-loop a i₀ t4 i = 8 - i
+abbrev decreases-loop-i : tie.decreases-loop-i
+decreases-loop-i a i₀ t4 i = 8 - i
 
 pub write_answer_spec : {M : Type 1} → statement M
 write_answer_spec =
     tie.close
     (tie.spec
-    invariant-loop
-    decreases-loop
+    invariant-loop-i
+    decreases-loop-i
     (λ c. search rules)  -- loop-holds
     (λ c. search rules)  -- slice-aggregate-write-all
     (λ c κs. search rules)  -- write-all-requires

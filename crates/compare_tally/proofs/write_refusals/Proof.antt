@@ -2,18 +2,18 @@ use Rattle.std.proofs.Common.{◌-◌, ◌≤◌, rules}
 use Rattle.compare_tally.proofs.write_refusals.Statement.{statement}
 use Rattle.compare_tally.proofs.write_refusals.Tie as tie
 
-abbrev invariant-loop : tie.invariant-loop
-invariant-loop tally number₀ t3 t4 number = 0 ≤ number
+abbrev invariant-loop-number : tie.invariant-loop-number
+invariant-loop-number tally number₀ t3 t4 number = 0 ≤ number
 
-abbrev decreases-loop : tie.decreases-loop
-decreases-loop tally number₀ t3 t4 number = 11 - number
+abbrev decreases-loop-number : tie.decreases-loop-number
+decreases-loop-number tally number₀ t3 t4 number = 11 - number
 
 pub write_refusals_spec : {M : Type 1} → statement M
 write_refusals_spec =
     tie.close
     (tie.spec
-    invariant-loop
-    decreases-loop
+    invariant-loop-number
+    decreases-loop-number
     (λ c. search rules)  -- loop-holds
     (λ c. search rules)  -- slice-aggregate-write-all
     (λ c κs. search rules)  -- write-all-requires

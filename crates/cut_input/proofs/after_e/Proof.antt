@@ -7,12 +7,12 @@ pub after_e_spec : {M : Type 1} → statement M
 after_e_spec =
     tie.close
     (tie.spec
-    (λ c κs. search (e_cases, rules))  -- line-at-requires
-    (λ c. search (e_cases, rules))  -- enum-told
-    (λ c. search (e_cases, rules))  -- enum-told-2
-    (λ c. search (e_cases, rules))  -- enum-known-line
-    (λ c κs. search (e_cases, rules))  -- after-b-requires
-    (λ c. search (e_cases, rules))  -- returns
-    (λ c. search (e_cases, rules))  -- returns-2
-    (λ c. search (e_cases, rules))  -- same-length
-    (λ c. search (e_cases, rules)))
+    (λ c κs. search (e_cases, rules))  -- line_at-line-requires
+    (λ c. search (e_cases, rules))  -- enum_told-1
+    (λ c. search (e_cases, rules))  -- enum_told-in-Bad
+    (λ c. search (e_cases, rules))  -- enum_known-line
+    (λ c κs. search (e_cases, rules))  -- after_b-requires
+    (λ c. search (e_cases, rules))  -- returns-in-End
+    (λ c. search (e_cases, rules))  -- returns-in-Bad
+    (λ c. search (e_cases, rules))  -- shape_of-keys
+    (λ c. search (e_cases, rules)))  -- returns-in-Number

@@ -7,10 +7,10 @@ pub move_block_spec : {M : Type 1} → statement M
 move_block_spec =
     tie.close
     (tie.spec
-    (λ c. search (block_cases, rules))  -- slice-aggregate-take-out
-    (λ c κs. search (block_cases, rules))  -- take-out-requires
-    (λ c. search (block_cases, rules))  -- add-put-in
-    (λ c. search (block_cases, rules))  -- slice-aggregate-put-in
-    (λ c κs. search (block_cases, rules))  -- put-in-requires
-    (λ c. search (block_cases, rules))  -- same-length
-    (λ c. search (block_cases, rules)))
+    (λ c. search (block_cases, rules))  -- slice_bounds-take_out-end
+    (λ c κs. search (block_cases, rules))  -- take_out-requires
+    (λ c. search (block_cases, rules))  -- overflow_add-a
+    (λ c. search (block_cases, rules))  -- slice_bounds-put_in-end
+    (λ c κs. search (block_cases, rules))  -- put_in-requires
+    (λ c. search (block_cases, rules))  -- shape_of-s
+    (λ c. search (block_cases, rules)))  -- returns

@@ -7,13 +7,13 @@ pub raise_spec : {M : Type 1} → statement M
 raise_spec =
     tie.close
     (tie.spec
-    (λ c. search (tail_cases, rules))  -- mul-count
-    (λ c. search (tail_cases, rules))  -- mul-by
-    (λ c κs. search (tail_cases, rules))  -- shift-up-requires
-    (λ c. search (tail_cases, rules))  -- mul-add-bases
-    (λ c. search (tail_cases, rules))  -- sub-add-bases
-    (λ c. search (tail_cases, rules))  -- part-add-bases-start
-    (λ c. search (tail_cases, rules))  -- part-add-bases-end
-    (λ c κs. search (tail_cases, rules))  -- add-bases-requires
-    (λ c. search (tail_cases, rules))  -- same-length
-    (λ c. search (tail_cases, rules)))
+    (λ c. search (tail_cases, rules))  -- overflow_mul-count
+    (λ c. search (tail_cases, rules))  -- overflow_mul-by
+    (λ c κs. search (tail_cases, rules))  -- shift_up-requires
+    (λ c. search (tail_cases, rules))  -- offset_bounds-tail-by
+    (λ c. search (tail_cases, rules))  -- slice_bounds-add_bases-count
+    (λ c. search (tail_cases, rules))  -- slice_bounds-add_bases-start
+    (λ c. search (tail_cases, rules))  -- slice_bounds-add_bases-end
+    (λ c κs. search (tail_cases, rules))  -- add_bases-requires
+    (λ c. search (tail_cases, rules))  -- shape_of-tail
+    (λ c. search (tail_cases, rules)))  -- returns

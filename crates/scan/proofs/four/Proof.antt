@@ -7,20 +7,20 @@ pub four_spec : {M : Type 1} → statement M
 four_spec =
     tie.close
     (tie.spec
-    (λ c. search (ahead_cases, rules))  -- add-if1
-    (λ c. search (ahead_cases, rules))  -- mul-if1
-    (λ c. search (ahead_cases, rules))  -- shared-slice-read-if1
-    (λ c. search (ahead_cases, rules))  -- returns
-    (λ c. search (ahead_cases, rules))  -- add-if2
-    (λ c. search (ahead_cases, rules))  -- mul-if2
-    (λ c. search (ahead_cases, rules))  -- shared-slice-read-if2
-    (λ c. search (ahead_cases, rules))  -- returns-2
-    (λ c. search (ahead_cases, rules))  -- add-if3
-    (λ c. search (ahead_cases, rules))  -- mul-if3
-    (λ c. search (ahead_cases, rules))  -- shared-slice-read-if3
-    (λ c. search (ahead_cases, rules))  -- returns-3
-    (λ c. search (ahead_cases, rules))  -- add-if4
-    (λ c. search (ahead_cases, rules))  -- mul-if4
-    (λ c. search (ahead_cases, rules))  -- shared-slice-read-if4
-    (λ c. search (ahead_cases, rules))  -- returns-4
-    (λ c. search (ahead_cases, rules)))
+    (λ c. search (ahead_cases, rules))  -- overflow_add-i
+    (λ c. search (ahead_cases, rules))  -- offset_bounds-cells-i
+    (λ c. search (ahead_cases, rules))  -- bounds-cells-i
+    (λ c. search (ahead_cases, rules))  -- returns-then-cells-i
+    (λ c. search (ahead_cases, rules))  -- overflow_add-i-2
+    (λ c. search (ahead_cases, rules))  -- offset_bounds-cells-i-2
+    (λ c. search (ahead_cases, rules))  -- bounds-cells-i-2
+    (λ c. search (ahead_cases, rules))  -- returns-then-cells-i-2
+    (λ c. search (ahead_cases, rules))  -- overflow_add-i-3
+    (λ c. search (ahead_cases, rules))  -- offset_bounds-cells-i-3
+    (λ c. search (ahead_cases, rules))  -- bounds-cells-i-3
+    (λ c. search (ahead_cases, rules))  -- returns-then-cells-i-3
+    (λ c. search (ahead_cases, rules))  -- overflow_add-i-4
+    (λ c. search (ahead_cases, rules))  -- offset_bounds-cells-i-4
+    (λ c. search (ahead_cases, rules))  -- bounds-cells-i-4
+    (λ c. search (ahead_cases, rules))  -- returns-then-cells-i-4
+    (λ c. search (ahead_cases, rules)))  -- returns

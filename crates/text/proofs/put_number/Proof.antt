@@ -4,27 +4,27 @@ use Rattle.text.proofs.Decimal.{put_cases}
 use Rattle.text.proofs.put_number.Statement.{statement}
 use Rattle.text.proofs.put_number.Tie as tie
 
-abbrev invariant-loop : tie.invariant-loop
-invariant-loop out₀ at x w v₀ left₀ out v left = Putting out₀ at x w out v left
+abbrev invariant-loop-left : tie.invariant-loop-left
+invariant-loop-left out₀ at x w v₀ left₀ out v left = Putting out₀ at x w out v left
 
-abbrev decreases-loop : tie.decreases-loop
-decreases-loop out₀ at x w v₀ left₀ out v left = left
+abbrev decreases-loop-left : tie.decreases-loop-left
+decreases-loop-left out₀ at x w v₀ left₀ out v left = left
 
 pub put_number_spec : {M : Type 1} → statement M
 put_number_spec =
     tie.close
     (tie.spec
-    invariant-loop
-    decreases-loop
-    (λ c κs. search (put_cases, rules))  -- width-requires
-    (λ c. search (put_cases, rules))  -- loop-holds
-    (λ c. search (put_cases, rules))  -- sub-left
-    (λ c. search (put_cases, rules))  -- add-p
-    (λ c. search (put_cases, rules))  -- cast-out
-    (λ c. search (put_cases, rules))  -- add-out
-    (λ c. search (put_cases, rules))  -- slice-write-out
-    (λ c. search (put_cases, rules))  -- loop-less
-    (λ c. search (put_cases, rules))  -- loop-again
-    (λ c. search (put_cases, rules))  -- add-result
-    (λ c. search (put_cases, rules))  -- same-length
-    (λ c. search (put_cases, rules)))
+    invariant-loop-left
+    decreases-loop-left
+    (λ c κs. search (put_cases, rules))  -- width-w-requires
+    (λ c. search (put_cases, rules))  -- loop-left-init
+    (λ c. search (put_cases, rules))  -- overflow_sub-left
+    (λ c. search (put_cases, rules))  -- overflow_add-p
+    (λ c. search (put_cases, rules))  -- overflow_cast-out
+    (λ c. search (put_cases, rules))  -- overflow_add-out
+    (λ c. search (put_cases, rules))  -- bounds-out-p
+    (λ c. search (put_cases, rules))  -- loop-left-smaller
+    (λ c. search (put_cases, rules))  -- loop-left-preserved
+    (λ c. search (put_cases, rules))  -- overflow_add-result
+    (λ c. search (put_cases, rules))  -- shape_of-out
+    (λ c. search (put_cases, rules)))  -- returns

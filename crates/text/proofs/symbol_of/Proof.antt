@@ -7,8 +7,8 @@ pub symbol_of_spec : {M : Type 1} → statement M
 symbol_of_spec =
     tie.close
     (tie.spec
-    (λ c. search (symbol_cases, rules))  -- returns
-    (λ c. search (symbol_cases, rules))  -- returns-2
-    (λ c. search (symbol_cases, rules))  -- returns-3
-    (λ c. search (symbol_cases, rules))  -- cast-t4
-    (λ c. search (symbol_cases, rules)))
+    (λ c. search (symbol_cases, rules))  -- returns-then-c-eq10
+    (λ c. search (symbol_cases, rules))  -- returns-then-c-lt48
+    (λ c. search (symbol_cases, rules))  -- returns-then-c-gt57
+    (λ c. search (symbol_cases, rules))  -- overflow_cast-result
+    (λ c. search (symbol_cases, rules)))  -- returns

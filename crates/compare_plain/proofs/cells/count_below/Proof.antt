@@ -3,22 +3,22 @@ use Prim.Native.Nat.{◌≤◌, ◌-◌}
 use Rattle.compare_plain.proofs.cells.count_below.Statement.{statement}
 use Rattle.compare_plain.proofs.cells.count_below.Tie as tie
 
-abbrev invariant-loop : tie.invariant-loop
-invariant-loop list m k count₀ i₀ count i = 0 ≤ i
+abbrev invariant-loop-i : tie.invariant-loop-i
+invariant-loop-i list m k count₀ i₀ count i = 0 ≤ i
 
-abbrev decreases-loop : tie.decreases-loop
-decreases-loop list m k count₀ i₀ count i = m - i
+abbrev decreases-loop-i : tie.decreases-loop-i
+decreases-loop-i list m k count₀ i₀ count i = m - i
 
 pub count_below_spec : {M : Type 1} → statement M
 count_below_spec =
     tie.close
     (tie.spec
-    invariant-loop
-    decreases-loop
-    (λ c. search rules)  -- loop-holds
+    invariant-loop-i
+    decreases-loop-i
+    (λ c. search rules)  -- loop-i-init
     (λ c κs. search rules)  -- at-requires
-    (λ c κs. search rules)  -- sum-requires
-    (λ c. search rules)  -- add-i
-    (λ c. search rules)  -- loop-less
-    (λ c. search rules)  -- loop-again
-    (λ c. search rules))
+    (λ c κs. search rules)  -- sum-count-requires
+    (λ c. search rules)  -- overflow_step-i
+    (λ c. search rules)  -- loop-i-smaller
+    (λ c. search rules)  -- loop-i-preserved
+    (λ c. search rules))  -- returns

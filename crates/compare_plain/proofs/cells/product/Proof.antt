@@ -7,7 +7,7 @@ pub product_spec : {M : Type 1} → statement M
 product_spec =
     tie.close
     (tie.spec
-    (λ c. search (product_cases, rules))  -- mul-result
-    (λ c. search rules)  -- returns
-    (λ c. search rules)  -- returns-2
-    (λ c. search rules))
+    (λ c. search (product_cases, rules))  -- overflow_mul-result
+    (λ c. search rules)  -- returns-then-b-lt65536
+    (λ c. search rules)  -- returns-else-b-lt65536
+    (λ c. search rules))  -- returns-else-a-lt281474976710656
