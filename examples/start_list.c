@@ -1,5 +1,5 @@
 /* Loads a start list, takes a late rider in, and lists who started.
-   cc examples/start_list.c target/staticlib/libreadstore.a -o start_list (rt staticlib readstore makes the archive) */
+   cc examples/start_list.c target/staticlib/libreadstore.a -o start_list (scripts/archive makes the archive) */
 #include <inttypes.h>
 #include <stdio.h>
 #include "../include/readstore.h"

@@ -1,12 +1,12 @@
-// Links libreadstore.a. `rt staticlib readstore` writes it to the repository's target/staticlib; READSTORE_LIB names another folder.
+// Links libreadstore.a. scripts/archive writes it to the repository's target/staticlib; READSTORE_LIB names another folder.
 use std::{env, path::PathBuf, process::Command};
 
 fn main() {
     let root = PathBuf::from(env::var("CARGO_MANIFEST_DIR").unwrap()).join("..");
     let folder = env::var("READSTORE_LIB").map(PathBuf::from).unwrap_or_else(|_| root.join("target/staticlib"));
     if !folder.join("libreadstore.a").exists() {
-        let made = Command::new("rt").args(["staticlib", "readstore"]).current_dir(&root).status();
-        assert!(matches!(made, Ok(s) if s.success()), "rt staticlib readstore failed: is the Rattle toolchain on the path?");
+        let made = Command::new(root.join("scripts/archive")).status();
+        assert!(matches!(made, Ok(s) if s.success()), "scripts/archive failed: is the Rattle toolchain's command rt on the path?");
     }
     println!("cargo:rustc-link-search=native={}", folder.display());
     println!("cargo:rustc-link-lib=static=readstore");

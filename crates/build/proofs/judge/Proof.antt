@@ -8,13 +8,13 @@ judge_spec =
     tie.close
     (tie.spec
     (λ c κs. search (judge_cases, rules))  -- takes-requires
-    (λ c κs. search (judge_cases, rules))  -- lowest-fault-requires
-    (λ c. search (judge_cases, rules))  -- enum-known-fault
-    (λ c κs. search (judge_cases, rules))  -- wrong-requires
-    (λ c. search (judge_cases, rules))  -- returns
-    (λ c. search (judge_cases, rules))  -- enum-told
-    (λ c. search (judge_cases, rules))  -- slice-aggregate-roomy
+    (λ c κs. search (judge_cases, rules))  -- lowest_fault-fault-requires
+    (λ c. search (judge_cases, rules))  -- enum_known-fault
+    (λ c κs. search (judge_cases, rules))  -- wrong-r-requires
+    (λ c. search (judge_cases, rules))  -- returns-in-At
+    (λ c. search (judge_cases, rules))  -- enum_told-1
+    (λ c. search (judge_cases, rules))  -- slice_bounds-roomy-end
     (λ c κs. search (judge_cases, rules))  -- roomy-requires
-    (λ c. search (judge_cases, rules))  -- returns-2
-    (λ c. search (judge_cases, rules))  -- returns-3
-    (λ c. search (judge_cases, rules)))
+    (λ c. search (judge_cases, rules))  -- returns-then-roomy
+    (λ c. search (judge_cases, rules))  -- returns-in-Nothing
+    (λ c. search (judge_cases, rules)))  -- returns

@@ -7,10 +7,10 @@ pub roomy_spec : {M : Type 1} → statement M
 roomy_spec =
     tie.close
     (tie.spec
-    (λ c κs. search (roomy_cases, rules))  -- segment-room-requires
-    (λ c. search (roomy_cases, rules))  -- sub-if1
-    (λ c. search (roomy_cases, rules))  -- add-if1
-    (λ c. search (roomy_cases, rules))  -- div-if1
-    (λ c. search (roomy_cases, rules))  -- returns
-    (λ c κs. search (roomy_cases, rules))  -- count-segments-requires
-    (λ c. search (roomy_cases, rules)))
+    (λ c κs. search (roomy_cases, rules))  -- segment_room-room-requires
+    (λ c. search (roomy_cases, rules))  -- overflow_sub-keys
+    (λ c. search (roomy_cases, rules))  -- overflow_add-e
+    (λ c. search (roomy_cases, rules))  -- nonzero_div-keys
+    (λ c. search (roomy_cases, rules))  -- returns-then-keys-e
+    (λ c κs. search (roomy_cases, rules))  -- count_segments-s-requires
+    (λ c. search (roomy_cases, rules)))  -- returns

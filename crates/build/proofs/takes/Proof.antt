@@ -8,5 +8,5 @@ takes_spec =
     tie.close
     (tie.spec
     (λ c κs. search (takes_cases, rules))  -- sized-requires
-    (λ c. search (takes_cases, rules))  -- returns
-    (λ c. search (takes_cases, rules)))
+    (λ c. search (takes_cases, rules))  -- returns-then-sized
+    (λ c. search (takes_cases, rules)))  -- returns

@@ -7,10 +7,10 @@ pub choose_some_spec : {M : Type 1} → statement M
 choose_some_spec =
     tie.close
     (tie.spec
-    (λ c. search (some_cases, rules))  -- returns
-    (λ c. search (some_cases, rules))  -- mul-end
-    (λ c. search (some_cases, rules))  -- sub-choose
-    (λ c. search (some_cases, rules))  -- part-choose-start
-    (λ c. search (some_cases, rules))  -- part-choose-end
+    (λ c. search (some_cases, rules))  -- returns-then-s-lt2
+    (λ c. search (some_cases, rules))  -- overflow_mul-end
+    (λ c. search (some_cases, rules))  -- slice_bounds-choose-count
+    (λ c. search (some_cases, rules))  -- slice_bounds-choose-start
+    (λ c. search (some_cases, rules))  -- slice_bounds-choose-end
     (λ c κs. search (some_cases, rules))  -- choose-requires
-    (λ c. search (some_cases, rules)))
+    (λ c. search (some_cases, rules)))  -- returns

@@ -7,21 +7,21 @@ pub passed_spec : {M : Type 1} → statement M
 passed_spec =
     tie.close
     (tie.spec
-    (λ c. search (passed_cases, rules))  -- sub-at
-    (λ c. search (passed_cases, rules))  -- mul-at
-    (λ c. search (passed_cases, rules))  -- add-if1
-    (λ c. search (passed_cases, rules))  -- mul-if1
-    (λ c. search (passed_cases, rules))  -- shared-slice-read-if1
-    (λ c. search (passed_cases, rules))  -- returns
-    (λ c. search (passed_cases, rules))  -- add-if2
-    (λ c. search (passed_cases, rules))  -- mul-if2
-    (λ c. search (passed_cases, rules))  -- shared-slice-read-if2
-    (λ c. search (passed_cases, rules))  -- returns-2
-    (λ c. search (passed_cases, rules))  -- add-if3
-    (λ c. search (passed_cases, rules))  -- mul-if3
-    (λ c. search (passed_cases, rules))  -- shared-slice-read-if3
-    (λ c. search (passed_cases, rules))  -- returns-3
-    (λ c. search (passed_cases, rules))  -- mul-if4
-    (λ c. search (passed_cases, rules))  -- shared-slice-read-if4
-    (λ c. search (passed_cases, rules))  -- returns-4
-    (λ c. search (passed_cases, rules)))
+    (λ c. search (passed_cases, rules))  -- overflow_sub-at
+    (λ c. search (passed_cases, rules))  -- overflow_mul-at
+    (λ c. search (passed_cases, rules))  -- overflow_add-at
+    (λ c. search (passed_cases, rules))  -- offset_bounds-table-at
+    (λ c. search (passed_cases, rules))  -- bounds-table-at
+    (λ c. search (passed_cases, rules))  -- returns-then-table-at
+    (λ c. search (passed_cases, rules))  -- overflow_add-at-2
+    (λ c. search (passed_cases, rules))  -- offset_bounds-table-at-2
+    (λ c. search (passed_cases, rules))  -- bounds-table-at-2
+    (λ c. search (passed_cases, rules))  -- returns-then-table-at-2
+    (λ c. search (passed_cases, rules))  -- overflow_add-at-3
+    (λ c. search (passed_cases, rules))  -- offset_bounds-table-at-3
+    (λ c. search (passed_cases, rules))  -- bounds-table-at-3
+    (λ c. search (passed_cases, rules))  -- returns-then-table-at-3
+    (λ c. search (passed_cases, rules))  -- offset_bounds-table-at-4
+    (λ c. search (passed_cases, rules))  -- bounds-table-at-4
+    (λ c. search (passed_cases, rules))  -- returns-then-table-at-4
+    (λ c. search (passed_cases, rules)))  -- returns

@@ -7,5 +7,5 @@ pub closing_spec : {M : Type 1} → statement M
 closing_spec =
     tie.close
     (tie.spec
-    (λ c. search (closing_cases, rules))  -- returns
-    (λ c. search (closing_cases, rules)))
+    (λ c. search (closing_cases, rules))  -- returns-then-p-eq4
+    (λ c. search (closing_cases, rules)))  -- returns-else-p-eq4

@@ -7,9 +7,7 @@ pub put_bound_buffer_spec : {M : Type 1} → statement M
 put_bound_buffer_spec =
     tie.close
     (tie.spec
-    (λ c. search (buffer_cases, rules))  -- slice-aggregate-put-named
-    (λ c κs. search (buffer_cases, rules))  -- put-named-requires
-    (λ c. search (buffer_cases, rules))  -- slice-aggregate-put-last
-    (λ c κs. search (buffer_cases, rules))  -- put-last-requires
-    (λ c. search (buffer_cases, rules))  -- same-length
-    (λ c. search (buffer_cases, rules)))
+    (λ c κs. search (buffer_cases, rules))  -- put_named-past-requires
+    (λ c κs. search (buffer_cases, rules))  -- put_last-requires
+    (λ c. search (buffer_cases, rules))  -- shape_of-out
+    (λ c. search (buffer_cases, rules)))  -- returns

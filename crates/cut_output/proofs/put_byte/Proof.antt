@@ -7,7 +7,7 @@ pub put_byte_spec : {M : Type 1} → statement M
 put_byte_spec =
     tie.close
     (tie.spec
-    (λ c. search (byte_cases, rules))  -- slice-write-out
-    (λ c. search (byte_cases, rules))  -- add-result
-    (λ c. search (byte_cases, rules))  -- same-length
-    (λ c. search (byte_cases, rules)))
+    (λ c. search (byte_cases, rules))  -- bounds-out-at
+    (λ c. search (byte_cases, rules))  -- overflow_add-result
+    (λ c. search (byte_cases, rules))  -- shape_of-out
+    (λ c. search (byte_cases, rules)))  -- returns

@@ -7,7 +7,7 @@ pub put_counts_spec : {M : Type 1} → statement M
 put_counts_spec =
     tie.close
     (tie.spec
-    (λ c κs. search (counts_cases, rules))  -- put-keys-segments-requires
-    (λ c κs. search (counts_cases, rules))  -- put-bound-buffer-requires
-    (λ c. search (counts_cases, rules))  -- same-length
-    (λ c. search (counts_cases, rules)))
+    (λ c κs. search (counts_cases, rules))  -- put_keys_segments-past-requires
+    (λ c κs. search (counts_cases, rules))  -- put_bound_buffer-requires
+    (λ c. search (counts_cases, rules))  -- shape_of-out
+    (λ c. search (counts_cases, rules)))  -- returns

@@ -7,7 +7,7 @@ pub put_field_spec : {M : Type 1} → statement M
 put_field_spec =
     tie.close
     (tie.spec
-    (λ c κs. search (field_cases, rules))  -- put-number-requires
-    (λ c κs. search (field_cases, rules))  -- put-byte-requires
-    (λ c. search (field_cases, rules))  -- same-length
-    (λ c. search (field_cases, rules)))
+    (λ c κs. search (field_cases, rules))  -- put_number-past-requires
+    (λ c κs. search (field_cases, rules))  -- put_byte-requires
+    (λ c. search (field_cases, rules))  -- shape_of-out
+    (λ c. search (field_cases, rules)))  -- returns

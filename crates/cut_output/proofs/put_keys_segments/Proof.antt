@@ -7,9 +7,7 @@ pub put_keys_segments_spec : {M : Type 1} → statement M
 put_keys_segments_spec =
     tie.close
     (tie.spec
-    (λ c. search (segments_cases, rules))  -- slice-aggregate-put-named
-    (λ c κs. search (segments_cases, rules))  -- put-named-requires
-    (λ c. search (segments_cases, rules))  -- slice-aggregate-put-named-2
-    (λ c κs. search (segments_cases, rules))  -- put-named-requires-2
-    (λ c. search (segments_cases, rules))  -- same-length
-    (λ c. search (segments_cases, rules)))
+    (λ c κs. search (segments_cases, rules))  -- put_named-past-requires
+    (λ c κs. search (segments_cases, rules))  -- put_named-requires
+    (λ c. search (segments_cases, rules))  -- shape_of-out
+    (λ c. search (segments_cases, rules)))  -- returns

@@ -7,7 +7,7 @@ pub put_last_spec : {M : Type 1} → statement M
 put_last_spec =
     tie.close
     (tie.spec
-    (λ c κs. search (last_cases, rules))  -- put-named-requires
-    (λ c κs. search (last_cases, rules))  -- put-byte-requires
-    (λ c. search (last_cases, rules))  -- same-length
-    (λ c. search (last_cases, rules)))
+    (λ c κs. search (last_cases, rules))  -- put_named-past-requires
+    (λ c κs. search (last_cases, rules))  -- put_byte-requires
+    (λ c. search (last_cases, rules))  -- shape_of-out
+    (λ c. search (last_cases, rules)))  -- returns

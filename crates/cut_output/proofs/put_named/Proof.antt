@@ -7,7 +7,7 @@ pub put_named_spec : {M : Type 1} → statement M
 put_named_spec =
     tie.close
     (tie.spec
-    (λ c κs. search (named_cases, rules))  -- put-word-requires
-    (λ c κs. search (named_cases, rules))  -- put-number-requires
-    (λ c. search (named_cases, rules))  -- same-length
-    (λ c. search (named_cases, rules)))
+    (λ c κs. search (named_cases, rules))  -- put_word-past-requires
+    (λ c κs. search (named_cases, rules))  -- put_number-requires
+    (λ c. search (named_cases, rules))  -- shape_of-out
+    (λ c. search (named_cases, rules)))  -- returns

@@ -7,11 +7,9 @@ pub put_refusal_spec : {M : Type 1} → statement M
 put_refusal_spec =
     tie.close
     (tie.spec
-    (λ c κs. search (refusal_cases, rules))  -- number-requires
-    (λ c κs. search (refusal_cases, rules))  -- place-requires
-    (λ c. search (refusal_cases, rules))  -- slice-aggregate-put-named
-    (λ c κs. search (refusal_cases, rules))  -- put-named-requires
-    (λ c. search (refusal_cases, rules))  -- slice-aggregate-put-last
-    (λ c κs. search (refusal_cases, rules))  -- put-last-requires
-    (λ c. search (refusal_cases, rules))  -- same-length
-    (λ c. search (refusal_cases, rules)))
+    (λ c κs. search (refusal_cases, rules))  -- number-number-requires
+    (λ c κs. search (refusal_cases, rules))  -- place-place-requires
+    (λ c κs. search (refusal_cases, rules))  -- put_named-past-requires
+    (λ c κs. search (refusal_cases, rules))  -- put_last-requires
+    (λ c. search (refusal_cases, rules))  -- shape_of-out
+    (λ c. search (refusal_cases, rules)))  -- returns

@@ -7,8 +7,8 @@ pub put_report_spec : {M : Type 1} → statement M
 put_report_spec =
     tie.close
     (tie.spec
-    (λ c κs. search (report_cases, rules))  -- put-counts-requires
-    (λ c. search (report_cases, rules))  -- mul-put-cells
-    (λ c κs. search (report_cases, rules))  -- put-cells-requires
-    (λ c. search (report_cases, rules))  -- same-length
-    (λ c. search (report_cases, rules)))
+    (λ c κs. search (report_cases, rules))  -- put_counts-past-requires
+    (λ c. search (report_cases, rules))  -- overflow_mul-s
+    (λ c κs. search (report_cases, rules))  -- put_cells-requires
+    (λ c. search (report_cases, rules))  -- shape_of-out
+    (λ c. search (report_cases, rules)))  -- returns

@@ -7,12 +7,12 @@ pub run_of_spec : {M : Type 1} → statement M
 run_of_spec =
     tie.close
     (tie.spec
-    (λ c. search (run_cases, rules))  -- returns
-    (λ c. search (run_cases, rules))  -- sub-result
-    (λ c. search (run_cases, rules))  -- add-result
-    (λ c. search (run_cases, rules))  -- mul-result
-    (λ c. search (run_cases, rules))  -- shared-slice-read-result
-    (λ c. search (run_cases, rules))  -- mul-result-2
-    (λ c. search (run_cases, rules))  -- shared-slice-read-result-2
-    (λ c. search (run_cases, rules))  -- sub-result-2
-    (λ c. search (run_cases, rules)))
+    (λ c. search (run_cases, rules))  -- returns-then-c-eq1
+    (λ c. search (run_cases, rules))  -- overflow_sub-result
+    (λ c. search (run_cases, rules))  -- overflow_add-result
+    (λ c. search (run_cases, rules))  -- offset_bounds-keys-i
+    (λ c. search (run_cases, rules))  -- bounds-keys-i
+    (λ c. search (run_cases, rules))  -- offset_bounds-keys-i-2
+    (λ c. search (run_cases, rules))  -- bounds-keys-i-2
+    (λ c. search (run_cases, rules))  -- overflow_sub-result-2
+    (λ c. search (run_cases, rules)))  -- returns

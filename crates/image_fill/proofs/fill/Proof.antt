@@ -7,9 +7,9 @@ pub fill_spec : {M : Type 1} → statement M
 fill_spec =
     tie.close
     (tie.spec
-    (λ c κs. search (image_cases, rules))  -- fill-keys-requires
-    (λ c κs. search (image_cases, rules))  -- fill-pieces-requires
-    (λ c. search (image_cases, rules))  -- same-length
-    (λ c. search (image_cases, rules))  -- same-length-2
-    (λ c. search (image_cases, rules))  -- same-length-3
-    (λ c. (search (run_filled, rules), (search (table_filled, rules), search (slots_filled, rules)))))
+    (λ c κs. search (image_cases, rules))  -- fill_keys-p-requires
+    (λ c κs. search (image_cases, rules))  -- fill_pieces-requires
+    (λ c. search (image_cases, rules))  -- shape_of-keys
+    (λ c. search (image_cases, rules))  -- shape_of-table
+    (λ c. search (image_cases, rules))  -- shape_of-buffers
+    (λ c. (search (run_filled, rules), (search (table_filled, rules), search (slots_filled, rules)))))  -- returns

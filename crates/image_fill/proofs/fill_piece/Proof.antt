@@ -7,11 +7,11 @@ pub fill_piece_spec : {M : Type 1} → statement M
 fill_piece_spec =
     tie.close
     (tie.spec
-    (λ c κs. search (piece_cases, rules))  -- held-in-requires
-    (λ c κs. search (piece_cases, rules))  -- fill-row-requires
-    (λ c. search (piece_cases, rules))  -- add-fill-keys
-    (λ c. search (piece_cases, rules))  -- mul-fill-keys
-    (λ c κs. search (piece_cases, rules))  -- fill-keys-requires
-    (λ c. search (piece_cases, rules))  -- same-length
-    (λ c. search (piece_cases, rules))  -- same-length-2
-    (λ c. search (piece_cases, rules)))
+    (λ c κs. search (piece_cases, rules))  -- held_in-h-requires
+    (λ c κs. search (piece_cases, rules))  -- fill_row-requires
+    (λ c. search (piece_cases, rules))  -- overflow_add-at
+    (λ c. search (piece_cases, rules))  -- overflow_mul-i
+    (λ c κs. search (piece_cases, rules))  -- fill_keys-requires
+    (λ c. search (piece_cases, rules))  -- shape_of-table
+    (λ c. search (piece_cases, rules))  -- shape_of-buffers
+    (λ c. search (piece_cases, rules)))  -- returns

@@ -7,17 +7,17 @@ pub fill_row_spec : {M : Type 1} → statement M
 fill_row_spec =
     tie.close
     (tie.spec
-    (λ c. search (row_cases, rules))  -- add-get
-    (λ c κs. search (row_cases, rules))  -- get-requires
-    (λ c. search (row_cases, rules))  -- add-get-2
-    (λ c κs. search (row_cases, rules))  -- get-requires-2
-    (λ c. search (row_cases, rules))  -- add-get-3
-    (λ c κs. search (row_cases, rules))  -- get-requires-3
-    (λ c. search (row_cases, rules))  -- add-get-4
-    (λ c κs. search (row_cases, rules))  -- get-requires-4
-    (λ c. search (row_cases, rules))  -- add-get-5
-    (λ c κs. search (row_cases, rules))  -- get-requires-5
-    (λ c. search (row_cases, rules))  -- mul-put-five
-    (λ c κs. search (row_cases, rules))  -- put-five-requires
-    (λ c. search (row_cases, rules))  -- same-length
-    (λ c. search (row_cases, rules)))
+    (λ c. search (row_cases, rules))  -- overflow_add-at
+    (λ c κs. search (row_cases, rules))  -- get-first-requires
+    (λ c. search (row_cases, rules))  -- overflow_add-at-2
+    (λ c κs. search (row_cases, rules))  -- get-base-requires
+    (λ c. search (row_cases, rules))  -- overflow_add-at-3
+    (λ c κs. search (row_cases, rules))  -- get-rise-requires
+    (λ c. search (row_cases, rules))  -- overflow_add-at-4
+    (λ c κs. search (row_cases, rules))  -- get-run-requires
+    (λ c. search (row_cases, rules))  -- overflow_add-at-5
+    (λ c κs. search (row_cases, rules))  -- get-held-requires
+    (λ c. search (row_cases, rules))  -- overflow_mul-i
+    (λ c κs. search (row_cases, rules))  -- put_five-requires
+    (λ c. search (row_cases, rules))  -- shape_of-table
+    (λ c. search (row_cases, rules)))  -- returns

@@ -9,19 +9,19 @@ pub put_five_spec : {M : Type 1} → statement M
 put_five_spec =
     tie.close
     (tie.spec
-    (λ c. search (five_cases, rules))  -- mul-table
-    (λ c. search (five_cases, rules))  -- slice-write-table
-    (λ c. search (five_cases, rules))  -- add-table
-    (λ c. search (five_cases, rules))  -- mul-table-2
-    (λ c. simp length-set (omega arith))  -- slice-write-table-2
-    (λ c. search (five_cases, rules))  -- add-table-2
-    (λ c. search (five_cases, rules))  -- mul-table-3
-    (λ c. simp length-set (omega arith))  -- slice-write-table-3
-    (λ c. search (five_cases, rules))  -- add-table-3
-    (λ c. search (five_cases, rules))  -- mul-table-4
-    (λ c. simp length-set (omega arith))  -- slice-write-table-4
-    (λ c. search (five_cases, rules))  -- add-table-4
-    (λ c. search (five_cases, rules))  -- mul-table-5
-    (λ c. simp length-set (omega arith))  -- slice-write-table-5
-    (λ c. search (five_cases, rules))  -- same-length
-    (λ c. search (five_cases, rules)))
+    (λ c. search (five_cases, rules))  -- offset_bounds-table-at
+    (λ c. search (five_cases, rules))  -- bounds-table-at
+    (λ c. search (five_cases, rules))  -- overflow_add-table
+    (λ c. search (five_cases, rules))  -- offset_bounds-table-at-2
+    (λ c. simp length-set (omega arith))  -- bounds-table-at-2
+    (λ c. search (five_cases, rules))  -- overflow_add-table-2
+    (λ c. search (five_cases, rules))  -- offset_bounds-table-at-3
+    (λ c. simp length-set (omega arith))  -- bounds-table-at-3
+    (λ c. search (five_cases, rules))  -- overflow_add-table-3
+    (λ c. search (five_cases, rules))  -- offset_bounds-table-at-4
+    (λ c. simp length-set (omega arith))  -- bounds-table-at-4
+    (λ c. search (five_cases, rules))  -- overflow_add-table-4
+    (λ c. search (five_cases, rules))  -- offset_bounds-table-at-5
+    (λ c. simp length-set (omega arith))  -- bounds-table-at-5
+    (λ c. search (five_cases, rules))  -- shape_of-table
+    (λ c. search (five_cases, rules)))  -- returns

@@ -7,7 +7,7 @@ pub cell_fits_spec : {M : Type 1} → statement M
 cell_fits_spec =
     tie.close
     (tie.spec
-    (λ c. search (cell_cases, rules))  -- mul-fits
-    (λ c. search (cell_cases, rules))  -- shared-slice-read-fits
+    (λ c. search (cell_cases, rules))  -- offset_bounds-cells-p
+    (λ c. search (cell_cases, rules))  -- bounds-cells-p
     (λ c κs. search (cell_cases, rules))  -- fits-requires
-    (λ c. search (cell_cases, rules)))
+    (λ c. search (cell_cases, rules)))  -- returns

@@ -7,16 +7,16 @@ pub entry_fits_spec : {M : Type 1} → statement M
 entry_fits_spec =
     tie.close
     (tie.spec
-    (λ c κs. search (entry_cases, rules))  -- fields-fit-requires
-    (λ c. search (entry_cases, rules))  -- mul-size
-    (λ c. search (entry_cases, rules))  -- add-size
-    (λ c. search (entry_cases, rules))  -- mul-size-2
-    (λ c. search (entry_cases, rules))  -- shared-slice-read-size
-    (λ c κs. search (entry_cases, rules))  -- size-requires
-    (λ c. search (entry_cases, rules))  -- mul-cells-fit
-    (λ c. search (entry_cases, rules))  -- mul-cells-fit-2
-    (λ c. search (entry_cases, rules))  -- add-cells-fit
-    (λ c κs. search (entry_cases, rules))  -- cells-fit-requires
-    (λ c. search (entry_cases, rules))  -- returns
-    (λ c. search (entry_cases, rules))  -- returns-2
-    (λ c. search (entry_cases, rules)))
+    (λ c κs. search (entry_cases, rules))  -- fields_fit-requires
+    (λ c. search (entry_cases, rules))  -- overflow_mul-i
+    (λ c. search (entry_cases, rules))  -- overflow_add-i
+    (λ c. search (entry_cases, rules))  -- offset_bounds-table-i
+    (λ c. search (entry_cases, rules))  -- bounds-table-i
+    (λ c κs. search (entry_cases, rules))  -- size-held-requires
+    (λ c. search (entry_cases, rules))  -- overflow_mul-i-then-held-z
+    (λ c. search (entry_cases, rules))  -- overflow_mul-i-then-held-z-2
+    (λ c. search (entry_cases, rules))  -- overflow_add-i-then-held-z
+    (λ c κs. search (entry_cases, rules))  -- cells_fit-requires
+    (λ c. search (entry_cases, rules))  -- returns-then-held-z
+    (λ c. search (entry_cases, rules))  -- returns-then-fields_fit
+    (λ c. search (entry_cases, rules)))  -- returns

@@ -8,12 +8,12 @@ row_fits_spec =
     tie.close
     (tie.spec
     (λ c κs. search (row_cases, rules))  -- fits-requires
-    (λ c κs. search (row_cases, rules))  -- fits-requires-2
-    (λ c κs. search (row_cases, rules))  -- fits-requires-3
-    (λ c κs. search (row_cases, rules))  -- fits-requires-4
-    (λ c κs. search (row_cases, rules))  -- fits-requires-5
-    (λ c. search (row_cases, rules))  -- returns
-    (λ c. search (row_cases, rules))  -- returns-2
-    (λ c. search (row_cases, rules))  -- returns-3
-    (λ c. search (row_cases, rules))  -- returns-4
-    (λ c. search (row_cases, rules)))
+    (λ c κs. search (row_cases, rules))  -- fits-requires-then-fits
+    (λ c κs. search (row_cases, rules))  -- fits-requires-then-fits-2
+    (λ c κs. search (row_cases, rules))  -- fits-requires-then-fits-3
+    (λ c κs. search (row_cases, rules))  -- fits-requires-then-fits-4
+    (λ c. search (row_cases, rules))  -- returns-then-fits-4
+    (λ c. search (row_cases, rules))  -- returns-then-fits-3
+    (λ c. search (row_cases, rules))  -- returns-then-fits-2
+    (λ c. search (row_cases, rules))  -- returns-then-fits
+    (λ c. search (row_cases, rules)))  -- returns

@@ -7,6 +7,6 @@ pub run_wrong_spec : {M : Type 1} → statement M
 run_wrong_spec =
     tie.close
     (tie.spec
-    (λ c κs. search (run_cases, rules))  -- cells-fit-requires
-    (λ c. search (run_cases, rules))  -- returns
-    (λ c. search (run_cases, rules)))
+    (λ c κs. search (run_cases, rules))  -- cells_fit-requires
+    (λ c. search (run_cases, rules))  -- returns-then-cells_fit
+    (λ c. search (run_cases, rules)))  -- returns

@@ -7,9 +7,9 @@ pub wrong_spec : {M : Type 1} → statement M
 wrong_spec =
     tie.close
     (tie.spec
-    (λ c κs. search (wrong_cases, rules))  -- lowest-wrong-requires
-    (λ c. search (wrong_cases, rules))  -- enum-known-w
-    (λ c. search (wrong_cases, rules))  -- enum-told
-    (λ c κs. search (wrong_cases, rules))  -- run-wrong-requires
-    (λ c. search (wrong_cases, rules))  -- returns
-    (λ c. search (wrong_cases, rules)))
+    (λ c κs. search (wrong_cases, rules))  -- lowest_wrong-w-requires
+    (λ c. search (wrong_cases, rules))  -- enum_known-w
+    (λ c. search (wrong_cases, rules))  -- enum_told-1
+    (λ c κs. search (wrong_cases, rules))  -- run_wrong-requires
+    (λ c. search (wrong_cases, rules))  -- returns-in-At
+    (λ c. search (wrong_cases, rules)))  -- returns-in-Nothing

@@ -7,9 +7,9 @@ pub after_spec : {M : Type 1} → statement M
 after_spec =
     tie.close
     (tie.spec
-    (λ c κs. search (after_cases, rules))  -- parts-requires
-    (λ c. search (after_cases, rules))  -- enum-known-w
+    (λ c κs. search (after_cases, rules))  -- parts-w-requires
+    (λ c. search (after_cases, rules))  -- enum_known-w
     (λ c κs. search (after_cases, rules))  -- end-requires
-    (λ c. search (after_cases, rules))  -- enum-known-w-2
-    (λ c. search (after_cases, rules))  -- returns
-    (λ c. search (after_cases, rules)))
+    (λ c. search (after_cases, rules))  -- enum_known-w-in-Fault-1
+    (λ c. search (after_cases, rules))  -- returns-in-Past
+    (λ c. search (after_cases, rules)))  -- returns-in-Fault

@@ -8,7 +8,7 @@ end_spec =
     tie.close
     (tie.spec
     (λ c κs. search (end_cases, rules))  -- stands-requires
-    (λ c. search (end_cases, rules))  -- add-z
-    (λ c. search (end_cases, rules))  -- returns
-    (λ c. search (end_cases, rules))  -- returns-2
-    (λ c. search (end_cases, rules)))
+    (λ c. search (end_cases, rules))  -- overflow_add-z
+    (λ c. search (end_cases, rules))  -- returns-then-bytes-z
+    (λ c. search (end_cases, rules))  -- returns-then-stands
+    (λ c. search (end_cases, rules)))  -- returns

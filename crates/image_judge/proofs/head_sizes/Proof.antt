@@ -6,8 +6,8 @@ pub head_sizes_spec : {M : Type 1} → statement M
 head_sizes_spec =
     tie.close
     (tie.spec
-    (λ c κs. search rules)  -- two-requires
-    (λ c κs. search rules)  -- two-requires-2
-    (λ c κs. search rules)  -- two-requires-3
-    (λ c κs. search rules)  -- two-requires-4
-    (λ c. cc))
+    (λ c κs. search rules)  -- two-e-requires
+    (λ c κs. search rules)  -- two-b-requires
+    (λ c κs. search rules)  -- two-n-requires
+    (λ c κs. search rules)  -- two-s-requires
+    (λ c. cc))  -- returns

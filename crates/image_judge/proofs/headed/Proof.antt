@@ -8,7 +8,7 @@ headed_spec =
     tie.close
     (tie.spec
     (λ c κs. search (headed_cases, rules))  -- counted-requires
-    (λ c κs. search (headed_cases, rules))  -- rest-requires
+    (λ c κs. search (headed_cases, rules))  -- rest-w-requires
     (λ c κs. search (headed_cases, rules))  -- answer-requires
-    (λ c. search (headed_cases, rules))  -- returns
-    (λ c. search (headed_cases, rules)))
+    (λ c. search (headed_cases, rules))  -- returns-then-counted
+    (λ c. search (headed_cases, rules)))  -- returns

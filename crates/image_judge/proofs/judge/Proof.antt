@@ -7,6 +7,6 @@ pub judge_spec : {M : Type 1} → statement M
 judge_spec =
     tie.close
     (tie.spec
-    (λ c κs. search (edition_cases, rules))  -- first-layout-requires
-    (λ c κs. search (edition_cases, rules))  -- read-requires
-    (λ c. search (edition_cases, rules)))
+    (λ c κs. search (edition_cases, rules))  -- first_layout-f-requires
+    (λ c κs. search (edition_cases, rules))  -- judge_by-requires
+    (λ c. search (edition_cases, rules)))  -- returns

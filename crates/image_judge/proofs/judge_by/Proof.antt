@@ -8,7 +8,7 @@ judge_by_spec =
     tie.close
     (tie.spec
     (λ c κs. search (read_cases, rules))  -- stands-requires
-    (λ c κs. search (read_cases, rules))  -- head-sizes-requires
+    (λ c κs. search (read_cases, rules))  -- head_sizes-requires
     (λ c κs. search (read_cases, rules))  -- headed-requires
-    (λ c. search (read_cases, rules))  -- returns
-    (λ c. search (read_cases, rules)))
+    (λ c. search (read_cases, rules))  -- returns-then-stands
+    (λ c. search (read_cases, rules)))  -- returns

@@ -8,9 +8,9 @@ part_spec =
     tie.close
     (tie.spec
     (λ c κs. search (part_cases, rules))  -- stands-requires
-    (λ c κs. search (part_cases, rules))  -- held-at-requires
-    (λ c. search (part_cases, rules))  -- add-walk
+    (λ c κs. search (part_cases, rules))  -- held_at-h-requires
+    (λ c. search (part_cases, rules))  -- overflow_add-at
     (λ c κs. search (part_cases, rules))  -- walk-requires
-    (λ c. search (part_cases, rules))  -- returns
-    (λ c. search (part_cases, rules))  -- returns-2
-    (λ c. search (part_cases, rules)))
+    (λ c. search (part_cases, rules))  -- returns-then-h-b
+    (λ c. search (part_cases, rules))  -- returns-then-stands
+    (λ c. search (part_cases, rules)))  -- returns

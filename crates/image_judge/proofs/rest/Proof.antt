@@ -7,9 +7,9 @@ pub rest_spec : {M : Type 1} → statement M
 rest_spec =
     tie.close
     (tie.spec
-    (λ c κs. search (rest_cases, rules))  -- walk-requires
-    (λ c. search (rest_cases, rules))  -- enum-known-w
+    (λ c κs. search (rest_cases, rules))  -- walk-w-requires
+    (λ c. search (rest_cases, rules))  -- enum_known-w
     (λ c κs. search (rest_cases, rules))  -- after-requires
-    (λ c. search (rest_cases, rules))  -- enum-known-w-2
-    (λ c. search (rest_cases, rules))  -- returns
-    (λ c. search (rest_cases, rules)))
+    (λ c. search (rest_cases, rules))  -- enum_known-w-in-Fault-1
+    (λ c. search (rest_cases, rules))  -- returns-in-Past
+    (λ c. search (rest_cases, rules)))  -- returns-in-Fault

@@ -7,8 +7,8 @@ pub stands_spec : {M : Type 1} → statement M
 stands_spec =
     tie.close
     (tie.spec
-    (λ c. search (stands_cases, rules))  -- sub-if1
-    (λ c. search (stands_cases, rules))  -- returns
-    (λ c. search (stands_cases, rules))  -- shared-slice-read-if2
-    (λ c. search (stands_cases, rules))  -- returns-2
-    (λ c. search (stands_cases, rules)))
+    (λ c. search (stands_cases, rules))  -- overflow_sub-bytes
+    (λ c. search (stands_cases, rules))  -- returns-then-bytes-at
+    (λ c. search (stands_cases, rules))  -- bounds-bytes-at
+    (λ c. search (stands_cases, rules))  -- returns-then-bytes-at-2
+    (λ c. search (stands_cases, rules)))  -- returns

@@ -7,6 +7,6 @@ pub byte_spec : {M : Type 1} → statement M
 byte_spec =
     tie.close
     (tie.spec
-    (λ c. search (byte_cases, rules))  -- slice-write-dst
-    (λ c. search (byte_cases, rules))  -- same-length
-    (λ c. search (byte_cases, rules)))
+    (λ c. search (byte_cases, rules))  -- bounds-dst-at
+    (λ c. search (byte_cases, rules))  -- shape_of-dst
+    (λ c. search (byte_cases, rules)))  -- returns

@@ -8,6 +8,6 @@ put_end_spec =
     tie.close
     (tie.spec
     (λ c κs. search (end_cases, rules))  -- byte-requires
-    (λ c. search (end_cases, rules))  -- add-result
-    (λ c. search (end_cases, rules))  -- same-length
-    (λ c. search (end_cases, rules)))
+    (λ c. search (end_cases, rules))  -- overflow_add-result
+    (λ c. search (end_cases, rules))  -- shape_of-dst
+    (λ c. search (end_cases, rules)))  -- returns

@@ -10,9 +10,9 @@ put_head_spec =
     (λ c κs. search (head_cases, rules))  -- byte-requires
     (λ c κs. search (head_cases, rules))  -- cell-requires
     (λ c κs. search (head_cases, rules))  -- cell-requires-2
-    (λ c κs. search (head_cases, rules))  -- put-pair-requires
+    (λ c κs. search (head_cases, rules))  -- put_pair-requires
     (λ c κs. search (head_cases, rules))  -- cell-requires-3
     (λ c κs. search (head_cases, rules))  -- cell-requires-4
-    (λ c κs. search (head_cases, rules))  -- put-pair-requires-2
-    (λ c. search (head_cases, rules))  -- same-length
-    (λ c. search (head_cases, rules)))
+    (λ c κs. search (head_cases, rules))  -- put_pair-requires-2
+    (λ c. search (head_cases, rules))  -- shape_of-dst
+    (λ c. search (head_cases, rules)))  -- returns

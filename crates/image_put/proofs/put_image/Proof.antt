@@ -7,8 +7,8 @@ pub put_image_spec : {M : Type 1} → statement M
 put_image_spec =
     tie.close
     (tie.spec
-    (λ c κs. search (image_cases, rules))  -- put-head-requires
-    (λ c κs. search (image_cases, rules))  -- put-keys-requires
-    (λ c κs. search (image_cases, rules))  -- put-rest-requires
-    (λ c. search (image_cases, rules))  -- same-length
-    (λ c. search (image_cases, rules)))
+    (λ c κs. search (image_cases, rules))  -- put_head-p-requires
+    (λ c κs. search (image_cases, rules))  -- put_keys-q-requires
+    (λ c κs. search (image_cases, rules))  -- put_rest-requires
+    (λ c. search (image_cases, rules))  -- shape_of-dst
+    (λ c. search (image_cases, rules)))  -- returns

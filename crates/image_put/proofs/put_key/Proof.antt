@@ -8,8 +8,8 @@ put_key_spec =
     tie.close
     (tie.spec
     (λ c κs. search (key_cases, rules))  -- byte-requires
-    (λ c. search (key_cases, rules))  -- add-put
+    (λ c. search (key_cases, rules))  -- overflow_add-at
     (λ c κs. search (key_cases, rules))  -- put-requires
-    (λ c. search (key_cases, rules))  -- add-result
-    (λ c. search (key_cases, rules))  -- same-length
-    (λ c. search (key_cases, rules)))
+    (λ c. search (key_cases, rules))  -- overflow_add-result
+    (λ c. search (key_cases, rules))  -- shape_of-dst
+    (λ c. search (key_cases, rules)))  -- returns

@@ -7,8 +7,8 @@ pub put_line_spec : {M : Type 1} → statement M
 put_line_spec =
     tie.close
     (tie.spec
-    (λ c κs. search (line_written, rules))  -- put-pair-requires
-    (λ c. search (line_written, rules))  -- add-put
+    (λ c κs. search (line_written, rules))  -- put_pair-requires
+    (λ c. search (line_written, rules))  -- overflow_add-at
     (λ c κs. search (line_written, rules))  -- put-requires
-    (λ c. search (line_written, rules))  -- same-length
-    (λ c. search (line_written, rules)))
+    (λ c. search (line_written, rules))  -- shape_of-dst
+    (λ c. search (line_written, rules)))  -- returns

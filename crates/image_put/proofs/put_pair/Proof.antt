@@ -8,7 +8,7 @@ put_pair_spec =
     tie.close
     (tie.spec
     (λ c κs. search (pair_written, rules))  -- put-requires
-    (λ c. search (pair_written, rules))  -- add-put
+    (λ c. search (pair_written, rules))  -- overflow_add-at
     (λ c κs. search (pair_written, rules))  -- put-requires-2
-    (λ c. search (pair_written, rules))  -- same-length
-    (λ c. search (pair_written, rules)))
+    (λ c. search (pair_written, rules))  -- shape_of-dst
+    (λ c. search (pair_written, rules)))  -- returns

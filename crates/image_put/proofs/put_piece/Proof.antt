@@ -7,13 +7,13 @@ pub put_piece_spec : {M : Type 1} → statement M
 put_piece_spec =
     tie.close
     (tie.spec
-    (λ c. search (piece_cases, rules))  -- mul-size
-    (λ c. search (piece_cases, rules))  -- add-size
-    (λ c. search (piece_cases, rules))  -- mul-size-2
-    (λ c. search (piece_cases, rules))  -- shared-slice-read-size
-    (λ c κs. search (piece_cases, rules))  -- size-requires
-    (λ c κs. search (piece_cases, rules))  -- put-row-requires
-    (λ c. search (piece_cases, rules))  -- mul-put-keys
-    (λ c κs. search (piece_cases, rules))  -- put-keys-requires
-    (λ c. search (piece_cases, rules))  -- same-length
-    (λ c. search (piece_cases, rules)))
+    (λ c. search (piece_cases, rules))  -- overflow_mul-i
+    (λ c. search (piece_cases, rules))  -- overflow_add-i
+    (λ c. search (piece_cases, rules))  -- offset_bounds-table-i
+    (λ c. search (piece_cases, rules))  -- bounds-table-i
+    (λ c κs. search (piece_cases, rules))  -- size-h-requires
+    (λ c κs. search (piece_cases, rules))  -- put_row-p-requires
+    (λ c. search (piece_cases, rules))  -- overflow_mul-i-2
+    (λ c κs. search (piece_cases, rules))  -- put_keys-requires
+    (λ c. search (piece_cases, rules))  -- shape_of-dst
+    (λ c. search (piece_cases, rules)))  -- returns

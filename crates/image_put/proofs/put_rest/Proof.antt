@@ -7,7 +7,7 @@ pub put_rest_spec : {M : Type 1} → statement M
 put_rest_spec =
     tie.close
     (tie.spec
-    (λ c κs. search (rest_cases, rules))  -- put-pieces-requires
-    (λ c κs. search (rest_cases, rules))  -- put-end-requires
-    (λ c. search (rest_cases, rules))  -- same-length
-    (λ c. search (rest_cases, rules)))
+    (λ c κs. search (rest_cases, rules))  -- put_pieces-p-requires
+    (λ c κs. search (rest_cases, rules))  -- put_end-requires
+    (λ c. search (rest_cases, rules))  -- shape_of-dst
+    (λ c. search (rest_cases, rules)))  -- returns

@@ -7,25 +7,25 @@ pub put_row_spec : {M : Type 1} → statement M
 put_row_spec =
     tie.close
     (tie.spec
-    (λ c. search (row_cases, rules))  -- mul-first
-    (λ c. search (row_cases, rules))  -- mul-first-2
-    (λ c. search (row_cases, rules))  -- shared-slice-read-first
-    (λ c. search (row_cases, rules))  -- mul-base
-    (λ c. search (row_cases, rules))  -- add-base
-    (λ c. search (row_cases, rules))  -- mul-base-2
-    (λ c. search (row_cases, rules))  -- shared-slice-read-base
-    (λ c. search (row_cases, rules))  -- mul-rise
-    (λ c. search (row_cases, rules))  -- add-rise
-    (λ c. search (row_cases, rules))  -- mul-rise-2
-    (λ c. search (row_cases, rules))  -- shared-slice-read-rise
-    (λ c. search (row_cases, rules))  -- mul-run
-    (λ c. search (row_cases, rules))  -- add-run
-    (λ c. search (row_cases, rules))  -- mul-run-2
-    (λ c. search (row_cases, rules))  -- shared-slice-read-run
-    (λ c. search (row_cases, rules))  -- mul-held
-    (λ c. search (row_cases, rules))  -- add-held
-    (λ c. search (row_cases, rules))  -- mul-held-2
-    (λ c. search (row_cases, rules))  -- shared-slice-read-held
-    (λ c κs. search (row_cases, rules))  -- put-segment-requires
-    (λ c. search (row_cases, rules))  -- same-length
-    (λ c. search (row_cases, rules)))
+    (λ c. search (row_cases, rules))  -- overflow_mul-first
+    (λ c. search (row_cases, rules))  -- offset_bounds-table-i
+    (λ c. search (row_cases, rules))  -- bounds-table-i
+    (λ c. search (row_cases, rules))  -- overflow_mul-base
+    (λ c. search (row_cases, rules))  -- overflow_add-base
+    (λ c. search (row_cases, rules))  -- offset_bounds-table-i-2
+    (λ c. search (row_cases, rules))  -- bounds-table-i-2
+    (λ c. search (row_cases, rules))  -- overflow_mul-rise
+    (λ c. search (row_cases, rules))  -- overflow_add-rise
+    (λ c. search (row_cases, rules))  -- offset_bounds-table-i-3
+    (λ c. search (row_cases, rules))  -- bounds-table-i-3
+    (λ c. search (row_cases, rules))  -- overflow_mul-run
+    (λ c. search (row_cases, rules))  -- overflow_add-run
+    (λ c. search (row_cases, rules))  -- offset_bounds-table-i-4
+    (λ c. search (row_cases, rules))  -- bounds-table-i-4
+    (λ c. search (row_cases, rules))  -- overflow_mul-held
+    (λ c. search (row_cases, rules))  -- overflow_add-held
+    (λ c. search (row_cases, rules))  -- offset_bounds-table-i-5
+    (λ c. search (row_cases, rules))  -- bounds-table-i-5
+    (λ c κs. search (row_cases, rules))  -- put_segment-requires
+    (λ c. search (row_cases, rules))  -- shape_of-dst
+    (λ c. search (row_cases, rules)))  -- returns

@@ -7,11 +7,11 @@ pub put_segment_spec : {M : Type 1} → statement M
 put_segment_spec =
     tie.close
     (tie.spec
-    (λ c κs. search (segment_cases, rules))  -- put-key-requires
-    (λ c. search (segment_cases, rules))  -- add-put-line
-    (λ c κs. search (segment_cases, rules))  -- put-line-requires
-    (λ c. search (segment_cases, rules))  -- add-put
+    (λ c κs. search (segment_cases, rules))  -- put_key-requires
+    (λ c. search (segment_cases, rules))  -- overflow_add-at
+    (λ c κs. search (segment_cases, rules))  -- put_line-requires
+    (λ c. search (segment_cases, rules))  -- overflow_add-at-2
     (λ c κs. search (segment_cases, rules))  -- put-requires
-    (λ c. search (segment_cases, rules))  -- add-result
-    (λ c. search (segment_cases, rules))  -- same-length
-    (λ c. search (segment_cases, rules)))
+    (λ c. search (segment_cases, rules))  -- overflow_add-result
+    (λ c. search (segment_cases, rules))  -- shape_of-dst
+    (λ c. search (segment_cases, rules)))  -- returns

@@ -7,11 +7,11 @@ pub carry_out_spec : {M : Type 1} → statement M
 carry_out_spec =
     tie.close
     (tie.spec
-    (λ c. search rules)  -- enum-known-a
+    (λ c. search rules)  -- enum_known-a
     (λ c κs. search (fill_asks, rules))  -- fill-requires
-    (λ c. search rules)  -- enum-known-a-2
-    (λ c. search rules)  -- same-length
-    (λ c. search rules)  -- same-length-2
-    (λ c. search rules)  -- same-length-3
-    (λ c. (search (keys_by_lem, rules), (search (table_by_lem, rules), search (buffers_by_lem, rules))))  -- returns
-    (λ c. (search (keys_by_lem, rules), (search (table_by_lem, rules), search (buffers_by_lem, rules)))))
+    (λ c. search rules)  -- enum_known-a-in-Refused-1
+    (λ c. search rules)  -- shape_of-keys
+    (λ c. search rules)  -- shape_of-table
+    (λ c. search rules)  -- shape_of-buffers
+    (λ c. (search (keys_by_lem, rules), (search (table_by_lem, rules), search (buffers_by_lem, rules))))  -- returns-in-Store
+    (λ c. (search (keys_by_lem, rules), (search (table_by_lem, rules), search (buffers_by_lem, rules)))))  -- returns-in-Refused

@@ -7,5 +7,5 @@ pub keys_held_spec : {M : Type 1} → statement M
 keys_held_spec =
     tie.close
     (tie.spec
-    (λ c κs. search (keys_cases, rules))  -- key-room-requires
-    (λ c. search (keys_cases, rules)))
+    (λ c κs. search (keys_cases, rules))  -- key_room-requires
+    (λ c. search (keys_cases, rules)))  -- returns

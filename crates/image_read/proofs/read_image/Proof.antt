@@ -6,9 +6,9 @@ pub read_image_spec : {M : Type 1} → statement M
 read_image_spec =
     tie.close
     (tie.spec
-    (λ c κs. search rules)  -- decide-requires
-    (λ c κs. search rules)  -- carry-out-requires
-    (λ c. search rules)  -- same-length
-    (λ c. search rules)  -- same-length-2
-    (λ c. search rules)  -- same-length-3
-    (λ c. search rules))
+    (λ c κs. search rules)  -- decide-decided-requires
+    (λ c κs. search rules)  -- carry_out-requires
+    (λ c. search rules)  -- shape_of-keys
+    (λ c. search rules)  -- shape_of-table
+    (λ c. search rules)  -- shape_of-buffers
+    (λ c. search rules))  -- returns

@@ -7,8 +7,8 @@ pub roomed_spec : {M : Type 1} → statement M
 roomed_spec =
     tie.close
     (tie.spec
-    (λ c κs. search (roomed_cases, rules))  -- keys-held-requires
-    (λ c κs. search (roomed_cases, rules))  -- segments-held-requires
-    (λ c. search (roomed_cases, rules))  -- returns
-    (λ c. search (roomed_cases, rules))  -- returns-2
-    (λ c. search (roomed_cases, rules)))
+    (λ c κs. search (roomed_cases, rules))  -- keys_held-requires
+    (λ c κs. search (roomed_cases, rules))  -- segments_held-requires
+    (λ c. search (roomed_cases, rules))  -- returns-then-segments_held
+    (λ c. search (roomed_cases, rules))  -- returns-then-keys_held
+    (λ c. search (roomed_cases, rules)))  -- returns

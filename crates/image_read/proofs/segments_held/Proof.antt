@@ -7,5 +7,5 @@ pub segments_held_spec : {M : Type 1} → statement M
 segments_held_spec =
     tie.close
     (tie.spec
-    (λ c κs. search (segments_cases, rules))  -- segment-room-requires
-    (λ c. search (segments_cases, rules)))
+    (λ c κs. search (segments_cases, rules))  -- segment_room-requires
+    (λ c. search (segments_cases, rules)))  -- returns

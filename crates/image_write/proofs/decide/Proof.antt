@@ -9,5 +9,5 @@ decide_spec =
     (tie.spec
     (λ c κs. search (decide_cases, rules))  -- limited-requires
     (λ c κs. search (decide_cases, rules))  -- judged-requires
-    (λ c. search (decide_cases, rules))  -- returns
-    (λ c. search (decide_cases, rules)))
+    (λ c. search (decide_cases, rules))  -- returns-then-limited
+    (λ c. search (decide_cases, rules)))  -- returns

@@ -7,6 +7,6 @@ pub fitted_spec : {M : Type 1} → statement M
 fitted_spec =
     tie.close
     (tie.spec
-    (λ c κs. search (fitted_cases, rules))  -- image-size-requires
-    (λ c. search (fitted_cases, rules))  -- returns
-    (λ c. search (fitted_cases, rules)))
+    (λ c κs. search (fitted_cases, rules))  -- image_size-length-requires
+    (λ c. search (fitted_cases, rules))  -- returns-then-length-room
+    (λ c. search (fitted_cases, rules)))  -- returns

@@ -7,19 +7,19 @@ pub carry_out_spec : {M : Type 1} → statement M
 carry_out_spec =
     tie.close
     (tie.spec
-    (λ c. search (insert_cases, rules))  -- enum-known-decided
+    (λ c. search (insert_cases, rules))  -- enum_known-decided
     (λ c κs. search (insert_cases, rules))  -- hold-requires
-    (λ c. search (insert_cases, rules))  -- enum-known-decided-2
-    (λ c. search (insert_cases, rules))  -- add-merged
-    (λ c. search (insert_cases, rules))  -- sub-merged
-    (λ c. search (insert_cases, rules))  -- add-merged-2
+    (λ c. search (insert_cases, rules))  -- enum_known-decided-in-Merge-1
+    (λ c. search (insert_cases, rules))  -- overflow_add-merged
+    (λ c. search (insert_cases, rules))  -- overflow_sub-merged
+    (λ c. search (insert_cases, rules))  -- overflow_add-merged-in-Merge
     (λ c κs. search (insert_cases, rules))  -- join-requires
-    (λ c. search (insert_cases, rules))  -- enum-known-decided-3
-    (λ c. search (insert_cases, rules))  -- same-length
-    (λ c. search (insert_cases, rules))  -- same-length-2
-    (λ c. (search (insert_cases, rules), (search rules, (search rules, search rules))))  -- returns
-    (λ c. search (insert_cases, rules))  -- same-length-3
-    (λ c. search (insert_cases, rules))  -- same-length-4
-    (λ c. search (insert_cases, rules))  -- same-length-5
-    (λ c. (search (insert_cases, rules), (search rules, (search rules, search rules))))  -- returns-2
-    (λ c. (search (insert_cases, rules), (search rules, (search rules, search rules)))))
+    (λ c. search (insert_cases, rules))  -- enum_known-decided-in-Refuse-1
+    (λ c. search (insert_cases, rules))  -- shape_of-table-in-Put
+    (λ c. search (insert_cases, rules))  -- shape_of-buffers-in-Put
+    (λ c. (search (insert_cases, rules), (search rules, (search rules, search rules))))  -- returns-in-Put
+    (λ c. search (insert_cases, rules))  -- shape_of-keys
+    (λ c. search (insert_cases, rules))  -- shape_of-table-in-Merge
+    (λ c. search (insert_cases, rules))  -- shape_of-buffers-in-Merge
+    (λ c. (search (insert_cases, rules), (search rules, (search rules, search rules))))  -- returns-in-Merge
+    (λ c. (search (insert_cases, rules), (search rules, (search rules, search rules)))))  -- returns-in-Refuse

@@ -8,12 +8,12 @@ decide_spec =
     tie.close
     (tie.spec
     (λ c κs. search (decide_cases, rules))  -- limited-requires
-    (λ c κs. search (decide_cases, rules))  -- is-key-requires
-    (λ c κs. search (decide_cases, rules))  -- pick-segment-requires
-    (λ c. search (decide_cases, rules))  -- enum-known-picked
-    (λ c κs. search (decide_cases, rules))  -- in-sound-requires
-    (λ c. search (decide_cases, rules))  -- returns
-    (λ c. search (decide_cases, rules))  -- enum-known-picked-2
-    (λ c. search (decide_cases, rules))  -- returns-2
-    (λ c. search (decide_cases, rules))  -- returns-3
-    (λ c. search (decide_cases, rules)))
+    (λ c κs. search (decide_cases, rules))  -- is_key-requires
+    (λ c κs. search (decide_cases, rules))  -- pick_segment-picked-requires
+    (λ c. search (decide_cases, rules))  -- enum_known-picked
+    (λ c κs. search (decide_cases, rules))  -- in_sound-requires
+    (λ c. search (decide_cases, rules))  -- returns-in-Sound
+    (λ c. search (decide_cases, rules))  -- enum_known-picked-in-Wrong-1
+    (λ c. search (decide_cases, rules))  -- returns-in-Wrong
+    (λ c. search (decide_cases, rules))  -- returns-then-limited
+    (λ c. search (decide_cases, rules)))  -- returns

@@ -7,8 +7,8 @@ pub in_rooms_spec : {M : Type 1} → statement M
 in_rooms_spec =
     tie.close
     (tie.spec
-    (λ c κs. search (rooms_cases, rules))  -- key-room-requires
-    (λ c. search (rooms_cases, rules))  -- add-if1
+    (λ c κs. search (rooms_cases, rules))  -- key_room-room-requires
+    (λ c. search (rooms_cases, rules))  -- overflow_add-z
     (λ c κs. search (rooms_cases, rules))  -- roomed-requires
-    (λ c. search (rooms_cases, rules))  -- returns
-    (λ c. search (rooms_cases, rules)))
+    (λ c. search (rooms_cases, rules))  -- returns-then-z-room
+    (λ c. search (rooms_cases, rules)))  -- returns

@@ -7,16 +7,16 @@ pub in_sound_spec : {M : Type 1} → statement M
 in_sound_spec =
     tie.close
     (tie.spec
-    (λ c κs. search (sound_cases, rules))  -- in-use-requires
-    (λ c κs. search (sound_cases, rules))  -- run-of-requires
-    (λ c κs. search (sound_cases, rules))  -- used-of-requires
-    (λ c κs. search (sound_cases, rules))  -- weigh-requires
-    (λ c. search (sound_cases, rules))  -- enum-told
-    (λ c. search (sound_cases, rules))  -- enum-told-2
-    (λ c. search (sound_cases, rules))  -- enum-known-a
-    (λ c. search (sound_cases, rules))  -- enum-known-a-2
-    (λ c κs. search (sound_cases, rules))  -- merge-due-requires
-    (λ c. search (sound_cases, rules))  -- returns
-    (λ c. search (sound_cases, rules))  -- returns-2
-    (λ c. search (sound_cases, rules))  -- returns-3
-    (λ c. search (sound_cases, rules)))
+    (λ c κs. search (sound_cases, rules))  -- in_use-e-requires
+    (λ c κs. search (sound_cases, rules))  -- run_of-run-requires
+    (λ c κs. search (sound_cases, rules))  -- used_of-used-requires
+    (λ c κs. search (sound_cases, rules))  -- weigh-a-requires
+    (λ c. search (sound_cases, rules))  -- enum_told-1
+    (λ c. search (sound_cases, rules))  -- enum_told-in-There
+    (λ c. search (sound_cases, rules))  -- enum_known-a
+    (λ c. search (sound_cases, rules))  -- enum_known-a-in-Pieces-1
+    (λ c κs. search (sound_cases, rules))  -- merge_due-requires
+    (λ c. search (sound_cases, rules))  -- returns-in-Disordered
+    (λ c. search (sound_cases, rules))  -- returns-in-There
+    (λ c. search (sound_cases, rules))  -- returns-in-Slot
+    (λ c. search (sound_cases, rules)))  -- returns-in-Pieces

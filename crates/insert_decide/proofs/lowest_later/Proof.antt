@@ -7,23 +7,23 @@ use Rattle.insert_decide.proofs.Laws.{later_cases}
 use Rattle.insert_decide.proofs.lowest_later.Statement.{statement}
 use Rattle.insert_decide.proofs.lowest_later.Tie as tie
 
-abbrev invariant-loop : tie.invariant-loop
-invariant-loop z table i j₀ j = later_of z.b z.n z.s table i ≡ fails_of (passes_of z.b z.n table) j (z.s - j)
+abbrev invariant-loop-j : tie.invariant-loop-j
+invariant-loop-j z table i j₀ j = later_of z.b z.n z.s table i ≡ fails_of (passes_of z.b z.n table) j (z.s - j)
 
-abbrev decreases-loop : tie.decreases-loop
-decreases-loop z table i j₀ j = z.s - j
+abbrev decreases-loop-j : tie.decreases-loop-j
+decreases-loop-j z table i j₀ j = z.s - j
 
 pub lowest_later_spec : {M : Type 1} → statement M
 lowest_later_spec =
     tie.close
     (tie.spec
-    invariant-loop
-    decreases-loop
-    (λ c. search (later_cases, rules))  -- add-j
-    (λ c. search (later_cases, rules))  -- loop-holds
+    invariant-loop-j
+    decreases-loop-j
+    (λ c. search (later_cases, rules))  -- overflow_add-j
+    (λ c. search (later_cases, rules))  -- loop-j-init
     (λ c κs. search (later_cases, rules))  -- passes-requires
-    (λ c. search (later_cases, rules))  -- add-j-2
-    (λ c. search (later_cases, rules))  -- loop-less
-    (λ c. search (later_cases, rules))  -- loop-again
-    (λ c. search (later_cases, rules))  -- returns
-    (λ c. search (later_cases, rules)))
+    (λ c. search (later_cases, rules))  -- overflow_add-j-then-passes
+    (λ c. search (later_cases, rules))  -- loop-j-smaller
+    (λ c. search (later_cases, rules))  -- loop-j-preserved
+    (λ c. search (later_cases, rules))  -- returns-else-passes
+    (λ c. search (later_cases, rules)))  -- returns

@@ -7,12 +7,12 @@ pub passes_spec : {M : Type 1} → statement M
 passes_spec =
     tie.close
     (tie.spec
-    (λ c. search (passes_cases, rules))  -- mul-at
-    (λ c. search (passes_cases, rules))  -- add-if1
-    (λ c. search (passes_cases, rules))  -- mul-if1
-    (λ c. search (passes_cases, rules))  -- shared-slice-read-if1
-    (λ c. search (passes_cases, rules))  -- add-result
-    (λ c. search (passes_cases, rules))  -- mul-result
-    (λ c. search (passes_cases, rules))  -- shared-slice-read-result
-    (λ c. search (passes_cases, rules))  -- returns
-    (λ c. search (passes_cases, rules)))
+    (λ c. search (passes_cases, rules))  -- overflow_mul-at
+    (λ c. search (passes_cases, rules))  -- overflow_add-at
+    (λ c. search (passes_cases, rules))  -- offset_bounds-table-at
+    (λ c. search (passes_cases, rules))  -- bounds-table-at
+    (λ c. search (passes_cases, rules))  -- overflow_add-result
+    (λ c. search (passes_cases, rules))  -- offset_bounds-table-at-then-table-at
+    (λ c. search (passes_cases, rules))  -- bounds-table-at-then-table-at
+    (λ c. search (passes_cases, rules))  -- returns-then-table-at
+    (λ c. search (passes_cases, rules)))  -- returns

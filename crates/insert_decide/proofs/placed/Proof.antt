@@ -7,10 +7,10 @@ pub placed_spec : {M : Type 1} → statement M
 placed_spec =
     tie.close
     (tie.spec
-    (λ c. search (placed_cases, rules))  -- add-if1
-    (λ c. search (placed_cases, rules))  -- returns
-    (λ c κs. search (placed_cases, rules))  -- pieces-requires
-    (λ c. search (placed_cases, rules))  -- enum-known-cutting
-    (λ c. search (placed_cases, rules))  -- enum-told
-    (λ c. search (placed_cases, rules))  -- returns-2
-    (λ c. search (placed_cases, rules)))
+    (λ c. search (placed_cases, rules))  -- overflow_add-x
+    (λ c. search (placed_cases, rules))  -- returns-then-x-b
+    (λ c κs. search (placed_cases, rules))  -- pieces-cutting-requires
+    (λ c. search (placed_cases, rules))  -- enum_known-cutting
+    (λ c. search (placed_cases, rules))  -- enum_told-1
+    (λ c. search (placed_cases, rules))  -- returns-in-Pieces
+    (λ c. search (placed_cases, rules)))  -- returns-in-Unruly

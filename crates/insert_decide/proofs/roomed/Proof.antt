@@ -7,8 +7,8 @@ pub roomed_spec : {M : Type 1} → statement M
 roomed_spec =
     tie.close
     (tie.spec
-    (λ c κs. search (roomed_cases, rules))  -- segment-room-requires
-    (λ c. search (roomed_cases, rules))  -- sub-if1
-    (λ c. search (roomed_cases, rules))  -- add-if1
-    (λ c. search (roomed_cases, rules))  -- returns
-    (λ c. search (roomed_cases, rules)))
+    (λ c κs. search (roomed_cases, rules))  -- segment_room-room-requires
+    (λ c. search (roomed_cases, rules))  -- overflow_sub-z
+    (λ c. search (roomed_cases, rules))  -- overflow_add-z
+    (λ c. search (roomed_cases, rules))  -- returns-then-z-t
+    (λ c. search (roomed_cases, rules)))  -- returns

@@ -7,10 +7,10 @@ pub unless_in_run_spec : {M : Type 1} → statement M
 unless_in_run_spec =
     tie.close
     (tie.spec
-    (λ c κs. search (run_cases, rules))  -- reach-requires
-    (λ c κs. search (run_cases, rules))  -- find-requires
-    (λ c. search (run_cases, rules))  -- enum-told
-    (λ c. search (run_cases, rules))  -- enum-told-2
+    (λ c κs. search (run_cases, rules))  -- reach-w-requires
+    (λ c κs. search (run_cases, rules))  -- find-place-requires
+    (λ c. search (run_cases, rules))  -- enum_told-1
+    (λ c. search (run_cases, rules))  -- enum_told-in-Nothing
     (λ c κs. search (run_cases, rules))  -- placed-requires
-    (λ c. search (run_cases, rules))  -- returns
-    (λ c. search (run_cases, rules)))
+    (λ c. search (run_cases, rules))  -- returns-in-At
+    (λ c. search (run_cases, rules)))  -- returns-in-Nothing

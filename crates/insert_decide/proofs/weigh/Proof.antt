@@ -7,11 +7,11 @@ pub weigh_spec : {M : Type 1} → statement M
 weigh_spec =
     tie.close
     (tie.spec
-    (λ c κs. search (weigh_cases, rules))  -- seat-of-requires
-    (λ c. search (weigh_cases, rules))  -- enum-told
-    (λ c. search (weigh_cases, rules))  -- enum-told-2
-    (λ c. search (weigh_cases, rules))  -- enum-known-seat
-    (λ c κs. search (weigh_cases, rules))  -- unless-in-run-requires
-    (λ c. search (weigh_cases, rules))  -- returns
-    (λ c. search (weigh_cases, rules))  -- returns-2
-    (λ c. search (weigh_cases, rules)))
+    (λ c κs. search (weigh_cases, rules))  -- seat_of-seat-requires
+    (λ c. search (weigh_cases, rules))  -- enum_told-1
+    (λ c. search (weigh_cases, rules))  -- enum_told-in-Taken
+    (λ c. search (weigh_cases, rules))  -- enum_known-seat
+    (λ c κs. search (weigh_cases, rules))  -- unless_in_run-requires
+    (λ c. search (weigh_cases, rules))  -- returns-in-Unruly
+    (λ c. search (weigh_cases, rules))  -- returns-in-Taken
+    (λ c. search (weigh_cases, rules)))  -- returns-in-Free

@@ -7,6 +7,6 @@ pub after_spec : {M : Type 1} → statement M
 after_spec =
     tie.close
     (tie.spec
-    (λ c κs. search (after_cases, rules))  -- is-key-requires
-    (λ c. search (after_cases, rules))  -- returns
-    (λ c. search (after_cases, rules)))
+    (λ c κs. search (after_cases, rules))  -- is_key-requires
+    (λ c. search (after_cases, rules))  -- returns-then-before-x
+    (λ c. search (after_cases, rules)))  -- returns

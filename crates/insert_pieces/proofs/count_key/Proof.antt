@@ -8,11 +8,11 @@ count_key_spec =
     tie.close
     (tie.spec
     (λ c κs. search (taken_cases, rules))  -- after-requires
-    (λ c κs. search (taken_cases, rules))  -- step-requires
-    (λ c. search (taken_cases, rules))  -- enum-known-s
-    (λ c. search (taken_cases, rules))  -- returns
-    (λ c. search (taken_cases, rules))  -- enum-told
-    (λ c κs. search (taken_cases, rules))  -- start-requires
-    (λ c. search (taken_cases, rules))  -- add-t17
-    (λ c. search (taken_cases, rules))  -- returns-2
-    (λ c. search (taken_cases, rules)))
+    (λ c κs. search (taken_cases, rules))  -- step-s-requires
+    (λ c. search (taken_cases, rules))  -- enum_known-s
+    (λ c. search (taken_cases, rules))  -- returns-in-Joined
+    (λ c. search (taken_cases, rules))  -- enum_told-1
+    (λ c κs. search (taken_cases, rules))  -- start-fresh-requires
+    (λ c. search (taken_cases, rules))  -- overflow_add-result
+    (λ c. search (taken_cases, rules))  -- returns-in-Apart
+    (λ c. search (taken_cases, rules)))  -- returns

@@ -7,13 +7,13 @@ pub count_next_spec : {M : Type 1} → statement M
 count_next_spec =
     tie.close
     (tie.spec
-    (λ c κs. search (turn_cases, rules))  -- next-requires
-    (λ c. search (turn_cases, rules))  -- enum-known-n
-    (λ c κs. search (turn_cases, rules))  -- count-key-requires
-    (λ c. search (turn_cases, rules))  -- enum-known-u
-    (λ c. search (turn_cases, rules))  -- enum-told
-    (λ c. search (turn_cases, rules))  -- enum-told-2
-    (λ c. search (turn_cases, rules))  -- add-t14
-    (λ c. search (turn_cases, rules))  -- returns
-    (λ c. search (turn_cases, rules))  -- returns-2
-    (λ c. search (turn_cases, rules)))
+    (λ c κs. search (turn_cases, rules))  -- next-n-requires
+    (λ c. search (turn_cases, rules))  -- enum_known-n
+    (λ c κs. search (turn_cases, rules))  -- count_key-u-requires
+    (λ c. search (turn_cases, rules))  -- enum_known-u
+    (λ c. search (turn_cases, rules))  -- enum_told-1
+    (λ c. search (turn_cases, rules))  -- enum_told-in-Done
+    (λ c. search (turn_cases, rules))  -- overflow_add-result
+    (λ c. search (turn_cases, rules))  -- returns-in-To
+    (λ c. search (turn_cases, rules))  -- returns-in-Fallen
+    (λ c. search (turn_cases, rules)))  -- returns-in-Done

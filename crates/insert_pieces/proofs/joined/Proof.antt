@@ -7,10 +7,10 @@ pub joined_spec : {M : Type 1} → statement M
 joined_spec =
     tie.close
     (tie.spec
-    (λ c. search (joined_cases, rules))  -- mul-x
-    (λ c. search (joined_cases, rules))  -- shared-slice-read-x
+    (λ c. search (joined_cases, rules))  -- offset_bounds-run-i
+    (λ c. search (joined_cases, rules))  -- bounds-run-i
     (λ c κs. search (joined_cases, rules))  -- step-requires
-    (λ c. search (joined_cases, rules))  -- returns
-    (λ c. search (joined_cases, rules))  -- returns-2
-    (λ c. search (joined_cases, rules))  -- returns-3
-    (λ c. search (joined_cases, rules)))
+    (λ c. search (joined_cases, rules))  -- returns-then-last-x
+    (λ c. search (joined_cases, rules))  -- returns-else-last-x
+    (λ c. search (joined_cases, rules))  -- returns-else-x-y
+    (λ c. search (joined_cases, rules)))  -- returns-else-i-run

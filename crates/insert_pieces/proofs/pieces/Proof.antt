@@ -7,12 +7,12 @@ pub pieces_spec : {M : Type 1} → statement M
 pieces_spec =
     tie.close
     (tie.spec
-    (λ c κs. search (pieces_cases, rules))  -- with-key-requires
-    (λ c κs. search (pieces_cases, rules))  -- next-requires
-    (λ c. search (pieces_cases, rules))  -- enum-known-n
-    (λ c κs. search (pieces_cases, rules))  -- is-key-requires
-    (λ c κs. search (pieces_cases, rules))  -- pieces-on-requires
-    (λ c. search (pieces_cases, rules))  -- returns
-    (λ c. search (pieces_cases, rules))  -- enum-told
-    (λ c. search (pieces_cases, rules))  -- returns-2
-    (λ c. search (pieces_cases, rules)))
+    (λ c κs. search (pieces_cases, rules))  -- with_key-m-requires
+    (λ c κs. search (pieces_cases, rules))  -- next-n-requires
+    (λ c. search (pieces_cases, rules))  -- enum_known-n
+    (λ c κs. search (pieces_cases, rules))  -- is_key-requires
+    (λ c κs. search (pieces_cases, rules))  -- pieces_on-requires
+    (λ c. search (pieces_cases, rules))  -- returns-then-is_key
+    (λ c. search (pieces_cases, rules))  -- enum_told-1
+    (λ c. search (pieces_cases, rules))  -- returns-else-is_key
+    (λ c. search (pieces_cases, rules)))  -- returns-in-Done

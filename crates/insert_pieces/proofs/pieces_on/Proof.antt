@@ -6,28 +6,28 @@ use Rattle.insert_pieces.proofs.Laws.{count_cases}
 use Rattle.insert_pieces.proofs.pieces_on.Statement.{statement}
 use Rattle.insert_pieces.proofs.pieces_on.Tie as tie
 
-abbrev invariant-loop : tie.invariant-loop
-invariant-loop e x run used k bound w₀ w = Counting e run used k w
+abbrev invariant-loop-then : tie.invariant-loop-then
+invariant-loop-then e x run used k bound w₀ w = Counting e run used k w
 
-abbrev decreases-loop : tie.decreases-loop
-decreases-loop e x run used k bound w₀ w = length (rest_of w.at run used k)
+abbrev decreases-loop-then : tie.decreases-loop-then
+decreases-loop-then e x run used k bound w₀ w = length (rest_of w.at run used k)
 
 pub pieces_on_spec : {M : Type 1} → statement M
 pieces_on_spec =
     tie.close
     (tie.spec
-    invariant-loop
-    decreases-loop
-    (λ c κs. search (count_cases, rules))  -- start-requires
-    (λ c. search (count_cases, rules))  -- loop-holds
-    (λ c κs. search (count_cases, rules))  -- bound-requires
-    (λ c κs. search (count_cases, rules))  -- capped-requires
-    (λ c κs. search (count_cases, rules))  -- along-requires
-    (λ c κs. search (count_cases, rules))  -- count-next-requires
-    (λ c. search (count_cases, rules))  -- enum-known-u
-    (λ c. search (count_cases, rules))  -- loop-less
-    (λ c. search (count_cases, rules))  -- loop-again
-    (λ c. search (count_cases, rules))  -- enum-known-u-2
-    (λ c. search (count_cases, rules))  -- returns
-    (λ c. search (count_cases, rules))  -- enum-told
-    (λ c. search (count_cases, rules)))
+    invariant-loop-then
+    decreases-loop-then
+    (λ c κs. search (count_cases, rules))  -- start-first-requires
+    (λ c. search (count_cases, rules))  -- loop-then-init
+    (λ c κs. search (count_cases, rules))  -- bound-z-requires
+    (λ c κs. search (count_cases, rules))  -- capped-y-requires
+    (λ c κs. search (count_cases, rules))  -- along-v-requires
+    (λ c κs. search (count_cases, rules))  -- count_next-u-requires
+    (λ c. search (count_cases, rules))  -- enum_known-u
+    (λ c. search (count_cases, rules))  -- loop-then-smaller
+    (λ c. search (count_cases, rules))  -- loop-then-preserved
+    (λ c. search (count_cases, rules))  -- enum_known-u-in-Over-1
+    (λ c. search (count_cases, rules))  -- returns-in-Over
+    (λ c. search (count_cases, rules))  -- enum_told-1
+    (λ c. search (count_cases, rules)))  -- returns-in-Fell

@@ -7,19 +7,19 @@ pub hold_spec : {M : Type 1} → statement M
 hold_spec =
     tie.close
     (tie.spec
-    (λ c. search (hold_cases, rules))  -- mul-at
-    (λ c. search (hold_cases, rules))  -- add-to
-    (λ c. search (hold_cases, rules))  -- add-to-2
-    (λ c. search (hold_cases, rules))  -- mul-put
-    (λ c. search (hold_cases, rules))  -- sub-put
-    (λ c. search (hold_cases, rules))  -- part-put-start
-    (λ c. search (hold_cases, rules))  -- part-put-end
+    (λ c. search (hold_cases, rules))  -- overflow_mul-at
+    (λ c. search (hold_cases, rules))  -- overflow_add-to
+    (λ c. search (hold_cases, rules))  -- overflow_add-to-2
+    (λ c. search (hold_cases, rules))  -- offset_bounds-buffers-at
+    (λ c. search (hold_cases, rules))  -- slice_bounds-put-count
+    (λ c. search (hold_cases, rules))  -- slice_bounds-put-start
+    (λ c. search (hold_cases, rules))  -- slice_bounds-put-end
     (λ c κs. search (hold_cases, rules))  -- put-requires
-    (λ c. search (hold_cases, rules))  -- mul-cell
-    (λ c. search (hold_cases, rules))  -- add-cell
-    (λ c. search (hold_cases, rules))  -- add-table
-    (λ c. search (hold_cases, rules))  -- mul-table
-    (λ c. search (hold_cases, rules))  -- slice-write-table
-    (λ c. search (hold_cases, rules))  -- same-length
-    (λ c. search (hold_cases, rules))  -- same-length-2
-    (λ c. search (hold_cases, rules)))
+    (λ c. search (hold_cases, rules))  -- overflow_mul-cell
+    (λ c. search (hold_cases, rules))  -- overflow_add-cell
+    (λ c. search (hold_cases, rules))  -- overflow_add-table
+    (λ c. search (hold_cases, rules))  -- offset_bounds-table-cell
+    (λ c. search (hold_cases, rules))  -- bounds-table-cell
+    (λ c. search (hold_cases, rules))  -- shape_of-table
+    (λ c. search (hold_cases, rules))  -- shape_of-buffers
+    (λ c. search (hold_cases, rules)))  -- returns

@@ -7,11 +7,11 @@ pub join_spec : {M : Type 1} → statement M
 join_spec =
     tie.close
     (tie.spec
-    (λ c κs. search (join_cases, rules))  -- used-of-requires
-    (λ c κs. search (join_cases, rules))  -- join-keys-requires
-    (λ c κs. search (join_cases, rules))  -- make-room-requires
+    (λ c κs. search (join_cases, rules))  -- used_of-used-requires
+    (λ c κs. search (join_cases, rules))  -- join_keys-requires
+    (λ c κs. search (join_cases, rules))  -- make_room-requires
     (λ c κs. search (join_cases, rules))  -- recut-requires
-    (λ c. search (join_cases, rules))  -- same-length
-    (λ c. search (join_cases, rules))  -- same-length-2
-    (λ c. search (join_cases, rules))  -- same-length-3
-    (λ c. (search (join_keys_done, rules), (search (join_table_done, rules), search rules))))
+    (λ c. search (join_cases, rules))  -- shape_of-keys
+    (λ c. search (join_cases, rules))  -- shape_of-table
+    (λ c. search (join_cases, rules))  -- shape_of-buffers
+    (λ c. (search (join_keys_done, rules), (search (join_table_done, rules), search rules))))  -- returns

@@ -7,13 +7,13 @@ pub join_keys_spec : {M : Type 1} → statement M
 join_keys_spec =
     tie.close
     (tie.spec
-    (λ c. search (keys_cases, rules))  -- add-to
-    (λ c. search (keys_cases, rules))  -- sub-shift-up
-    (λ c κs. search (keys_cases, rules))  -- shift-up-requires
-    (λ c. search (keys_cases, rules))  -- mul-merge-down
-    (λ c. search (keys_cases, rules))  -- sub-merge-down
-    (λ c. search (keys_cases, rules))  -- part-merge-down-start
-    (λ c. search (keys_cases, rules))  -- part-merge-down-end
-    (λ c κs. search (keys_cases, rules))  -- merge-down-requires
-    (λ c. search (keys_cases, rules))  -- same-length
-    (λ c. search (keys_cases, rules)))
+    (λ c. search (keys_cases, rules))  -- overflow_add-to
+    (λ c. search (keys_cases, rules))  -- overflow_sub-z
+    (λ c κs. search (keys_cases, rules))  -- shift_up-requires
+    (λ c. search (keys_cases, rules))  -- offset_bounds-keys-base
+    (λ c. search (keys_cases, rules))  -- slice_bounds-merge_down-count
+    (λ c. search (keys_cases, rules))  -- slice_bounds-merge_down-start
+    (λ c. search (keys_cases, rules))  -- slice_bounds-merge_down-end
+    (λ c κs. search (keys_cases, rules))  -- merge_down-requires
+    (λ c. search (keys_cases, rules))  -- shape_of-keys
+    (λ c. search (keys_cases, rules)))  -- returns

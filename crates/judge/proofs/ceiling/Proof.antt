@@ -7,10 +7,10 @@ pub ceiling_spec : {M : Type 1} → statement M
 ceiling_spec =
     tie.close
     (tie.spec
-    (λ c. search (ceiling_cases, rules))  -- add-if1
-    (λ c. search (ceiling_cases, rules))  -- add-t6
-    (λ c. search (ceiling_cases, rules))  -- mul-t7
-    (λ c. search (ceiling_cases, rules))  -- mul-t8
-    (λ c. search (ceiling_cases, rules))  -- shared-slice-read-t10
-    (λ c. search (ceiling_cases, rules))  -- returns
-    (λ c. search (ceiling_cases, rules)))
+    (λ c. search (ceiling_cases, rules))  -- overflow_add-i
+    (λ c. search (ceiling_cases, rules))  -- overflow_add-result
+    (λ c. search (ceiling_cases, rules))  -- overflow_mul-result
+    (λ c. search (ceiling_cases, rules))  -- offset_bounds-table-i
+    (λ c. search (ceiling_cases, rules))  -- bounds-table-i
+    (λ c. search (ceiling_cases, rules))  -- returns-then-i-s
+    (λ c. search (ceiling_cases, rules)))  -- returns

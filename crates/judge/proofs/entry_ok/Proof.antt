@@ -8,9 +8,9 @@ entry_ok_spec =
     tie.close
     (tie.spec
     (λ c κs. search (entry_cases, rules))  -- damaged-requires
-    (λ c. search (entry_cases, rules))  -- returns
+    (λ c. search (entry_cases, rules))  -- returns-then-damaged
     (λ c κs. search (entry_cases, rules))  -- starts-requires
-    (λ c. search (entry_cases, rules))  -- mul-result
-    (λ c. search (entry_cases, rules))  -- shared-slice-read-result
-    (λ c. search (entry_cases, rules))  -- returns-2
-    (λ c. search (entry_cases, rules)))
+    (λ c. search (entry_cases, rules))  -- offset_bounds-keys-base
+    (λ c. search (entry_cases, rules))  -- bounds-keys-base
+    (λ c. search (entry_cases, rules))  -- returns-then-starts
+    (λ c. search (entry_cases, rules)))  -- returns

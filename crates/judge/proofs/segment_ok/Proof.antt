@@ -7,12 +7,12 @@ pub segment_ok_spec : {M : Type 1} → statement M
 segment_ok_spec =
     tie.close
     (tie.spec
-    (λ c κs. search (segment_cases, rules))  -- entry-at-requires
-    (λ c κs. search (segment_cases, rules))  -- entry-ok-requires
-    (λ c κs. search (segment_cases, rules))  -- ceiling-requires
-    (λ c κs. search (segment_cases, rules))  -- run-of-requires
-    (λ c κs. search (segment_cases, rules))  -- used-of-requires
-    (λ c κs. search (segment_cases, rules))  -- in-use-requires
+    (λ c κs. search (segment_cases, rules))  -- entry_at-x-requires
+    (λ c κs. search (segment_cases, rules))  -- entry_ok-requires
+    (λ c κs. search (segment_cases, rules))  -- ceiling-next-requires
+    (λ c κs. search (segment_cases, rules))  -- run_of-run-requires
+    (λ c κs. search (segment_cases, rules))  -- used_of-used-requires
+    (λ c κs. search (segment_cases, rules))  -- in_use-requires
     (λ c κs. search (segment_cases, rules))  -- kept-requires
-    (λ c. search (segment_cases, rules))  -- returns
-    (λ c. search (segment_cases, rules)))
+    (λ c. search (segment_cases, rules))  -- returns-then-entry_ok
+    (λ c. search (segment_cases, rules)))  -- returns

@@ -7,5 +7,5 @@ pub starts_spec : {M : Type 1} → statement M
 starts_spec =
     tie.close
     (tie.spec
-    (λ c. search (starts_cases, rules))  -- returns
-    (λ c. search (starts_cases, rules)))
+    (λ c. search (starts_cases, rules))  -- returns-then-i-eq0
+    (λ c. search (starts_cases, rules)))  -- returns

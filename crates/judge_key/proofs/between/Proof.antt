@@ -7,9 +7,9 @@ pub between_spec : {M : Type 1} → statement M
 between_spec =
     tie.close
     (tie.spec
-    (λ c κs. search (between_cases, rules))  -- is-key-requires
+    (λ c κs. search (between_cases, rules))  -- is_key-requires
     (λ c κs. search (between_cases, rules))  -- above-requires
     (λ c κs. search (between_cases, rules))  -- under-requires
-    (λ c. search (between_cases, rules))  -- returns
-    (λ c. search (between_cases, rules))  -- returns-2
-    (λ c. search (between_cases, rules)))
+    (λ c. search (between_cases, rules))  -- returns-then-above
+    (λ c. search (between_cases, rules))  -- returns-then-is_key
+    (λ c. search (between_cases, rules)))  -- returns

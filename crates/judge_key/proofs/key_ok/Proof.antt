@@ -7,7 +7,7 @@ pub key_ok_spec : {M : Type 1} → statement M
 key_ok_spec =
     tie.close
     (tie.spec
-    (λ c κs. search (key_cases, rules))  -- run-key-requires
-    (λ c. search (key_cases, rules))  -- returns
-    (λ c κs. search (key_cases, rules))  -- used-key-requires
-    (λ c. search (key_cases, rules)))
+    (λ c κs. search (key_cases, rules))  -- run_key-requires
+    (λ c. search (key_cases, rules))  -- returns-then-at-past
+    (λ c κs. search (key_cases, rules))  -- used_key-requires
+    (λ c. search (key_cases, rules)))  -- returns

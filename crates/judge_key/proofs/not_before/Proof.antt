@@ -7,5 +7,5 @@ pub not_before_spec : {M : Type 1} → statement M
 not_before_spec =
     tie.close
     (tie.spec
-    (λ c. search (before_cases, rules))  -- returns
-    (λ c. search (before_cases, rules)))
+    (λ c. search (before_cases, rules))  -- returns-then-i-eq0
+    (λ c. search (before_cases, rules)))  -- returns

@@ -7,9 +7,9 @@ pub run_key_spec : {M : Type 1} → statement M
 run_key_spec =
     tie.close
     (tie.spec
-    (λ c. search (run_key_cases, rules))  -- add-p
+    (λ c. search (run_key_cases, rules))  -- overflow_add-p
     (λ c κs. search (run_key_cases, rules))  -- between-requires
-    (λ c κs. search (run_key_cases, rules))  -- window-requires
-    (λ c. search (run_key_cases, rules))  -- returns
-    (λ c. search (run_key_cases, rules))  -- returns-2
-    (λ c. search (run_key_cases, rules)))
+    (λ c κs. search (run_key_cases, rules))  -- window-w-requires
+    (λ c. search (run_key_cases, rules))  -- returns-then-p-w
+    (λ c. search (run_key_cases, rules))  -- returns-then-between
+    (λ c. search (run_key_cases, rules)))  -- returns

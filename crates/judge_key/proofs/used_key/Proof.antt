@@ -8,6 +8,6 @@ used_key_spec =
     tie.close
     (tie.spec
     (λ c κs. search (used_key_cases, rules))  -- between-requires
-    (λ c κs. search (used_key_cases, rules))  -- not-before-requires
-    (λ c. search (used_key_cases, rules))  -- returns
-    (λ c. search (used_key_cases, rules)))
+    (λ c κs. search (used_key_cases, rules))  -- not_before-requires
+    (λ c. search (used_key_cases, rules))  -- returns-then-between
+    (λ c. search (used_key_cases, rules)))  -- returns

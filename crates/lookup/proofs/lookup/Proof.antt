@@ -8,15 +8,15 @@ lookup_spec =
     tie.close
     (tie.spec
     (λ c κs. search (lookup_cases, rules))  -- limited-requires
-    (λ c κs. search (lookup_cases, rules))  -- is-key-requires
-    (λ c κs. search (lookup_cases, rules))  -- pick-segment-requires
-    (λ c. search (lookup_cases, rules))  -- enum-known-picked
-    (λ c κs. search (lookup_cases, rules))  -- run-of-requires
-    (λ c κs. search (lookup_cases, rules))  -- used-of-requires
-    (λ c κs. search (lookup_cases, rules))  -- in-use-requires
-    (λ c κs. search (lookup_cases, rules))  -- in-segment-requires
-    (λ c. search (lookup_cases, rules))  -- returns
-    (λ c. search (lookup_cases, rules))  -- enum-known-picked-2
-    (λ c. search (lookup_cases, rules))  -- returns-2
-    (λ c. search (lookup_cases, rules))  -- returns-3
-    (λ c. search (lookup_cases, rules)))
+    (λ c κs. search (lookup_cases, rules))  -- is_key-requires
+    (λ c κs. search (lookup_cases, rules))  -- pick_segment-picked-requires
+    (λ c. search (lookup_cases, rules))  -- enum_known-picked
+    (λ c κs. search (lookup_cases, rules))  -- run_of-run-requires
+    (λ c κs. search (lookup_cases, rules))  -- used_of-used-requires
+    (λ c κs. search (lookup_cases, rules))  -- in_use-e-requires
+    (λ c κs. search (lookup_cases, rules))  -- in_segment-requires
+    (λ c. search (lookup_cases, rules))  -- returns-in-Sound
+    (λ c. search (lookup_cases, rules))  -- enum_known-picked-in-Wrong-1
+    (λ c. search (lookup_cases, rules))  -- returns-in-Wrong
+    (λ c. search (lookup_cases, rules))  -- returns-then-limited
+    (λ c. search (lookup_cases, rules)))  -- returns

@@ -7,9 +7,9 @@ pub chosen_spec : {M : Type 1} → statement M
 chosen_spec =
     tie.close
     (tie.spec
-    (λ c κs. search (chosen_cases, rules))  -- choose-requires
-    (λ c κs. search (chosen_cases, rules))  -- choose-requires-2
-    (λ c. search (chosen_cases, rules))  -- add-stretched
+    (λ c κs. search (chosen_cases, rules))  -- choose-a-requires
+    (λ c κs. search (chosen_cases, rules))  -- choose-last-requires
+    (λ c. search (chosen_cases, rules))  -- overflow_add-last
     (λ c κs. search (chosen_cases, rules))  -- stretched-requires
-    (λ c. search (chosen_cases, rules))  -- same-length
-    (λ c. search (chosen_cases, rules)))
+    (λ c. search (chosen_cases, rules))  -- shape_of-out
+    (λ c. search (chosen_cases, rules)))  -- returns

@@ -8,12 +8,12 @@ range_spec =
     tie.close
     (tie.spec
     (λ c κs. search (range_cases, rules))  -- limited-requires
-    (λ c κs. search (range_cases, rules))  -- is-key-requires
-    (λ c κs. search (range_cases, rules))  -- is-key-requires-2
+    (λ c κs. search (range_cases, rules))  -- is_key-requires
+    (λ c κs. search (range_cases, rules))  -- is_key-requires-then-is_key
     (λ c κs. search (range_cases, rules))  -- chosen-requires
-    (λ c. search (range_cases, rules))  -- same-length
-    (λ c. search (range_cases, rules))  -- returns
-    (λ c. search (range_cases, rules))  -- returns-2
-    (λ c. search (range_cases, rules))  -- returns-3
-    (λ c. search (range_cases, rules))  -- returns-4
-    (λ c. search (range_cases, rules)))
+    (λ c. search (range_cases, rules))  -- shape_of-out-then-low-high
+    (λ c. search (range_cases, rules))  -- returns-then-low-high
+    (λ c. search (range_cases, rules))  -- returns-then-is_key-2
+    (λ c. search (range_cases, rules))  -- returns-then-is_key
+    (λ c. search (range_cases, rules))  -- returns-then-limited
+    (λ c. search (range_cases, rules)))  -- returns

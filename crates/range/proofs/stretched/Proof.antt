@@ -7,11 +7,11 @@ pub stretched_spec : {M : Type 1} → statement M
 stretched_spec =
     tie.close
     (tie.spec
-    (λ c κs. search (stretched_cases, rules))  -- judge-stretch-requires
-    (λ c. search (stretched_cases, rules))  -- enum-known-j
-    (λ c. search (stretched_cases, rules))  -- enum-known-j-2
+    (λ c κs. search (stretched_cases, rules))  -- judge_stretch-j-requires
+    (λ c. search (stretched_cases, rules))  -- enum_known-j
+    (λ c. search (stretched_cases, rules))  -- enum_known-j-in-Counts-1
     (λ c κs. search (stretched_cases, rules))  -- fill-requires
-    (λ c. search (stretched_cases, rules))  -- same-length
-    (λ c. search (stretched_cases, rules))  -- returns
-    (λ c. search (stretched_cases, rules))  -- returns-2
-    (λ c. search (stretched_cases, rules)))
+    (λ c. search (stretched_cases, rules))  -- shape_of-out-then-m-out
+    (λ c. search (stretched_cases, rules))  -- returns-then-m-out
+    (λ c. search (stretched_cases, rules))  -- returns-in-WrongAt
+    (λ c. search (stretched_cases, rules)))  -- returns-else-m-out

@@ -8,6 +8,6 @@ follows_spec =
     tie.close
     (tie.spec
     (λ c κs. search (follows_cases, rules))  -- above-requires
-    (λ c κs. search (follows_cases, rules))  -- is-key-requires
-    (λ c. search (follows_cases, rules))  -- returns
-    (λ c. search (follows_cases, rules)))
+    (λ c κs. search (follows_cases, rules))  -- is_key-requires
+    (λ c. search (follows_cases, rules))  -- returns-then-above
+    (λ c. search (follows_cases, rules)))  -- returns

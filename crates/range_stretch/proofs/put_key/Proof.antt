@@ -8,9 +8,9 @@ put_key_spec =
     tie.close
     (tie.spec
     (λ c κs. search (put_key_cases, rules))  -- within-requires
-    (λ c. search (put_key_cases, rules))  -- mul-out
-    (λ c. search (put_key_cases, rules))  -- slice-write-out
-    (λ c. search (put_key_cases, rules))  -- add-result
-    (λ c. search (put_key_cases, rules))  -- same-length
-    (λ c. search (put_key_cases, rules))  -- returns
-    (λ c. search (put_key_cases, rules)))
+    (λ c. search (put_key_cases, rules))  -- offset_bounds-out-at
+    (λ c. search (put_key_cases, rules))  -- bounds-out-at
+    (λ c. search (put_key_cases, rules))  -- overflow_add-result
+    (λ c. search (put_key_cases, rules))  -- shape_of-out-then-within
+    (λ c. search (put_key_cases, rules))  -- returns-then-within
+    (λ c. search (put_key_cases, rules)))  -- returns

@@ -7,9 +7,9 @@ pub put_segment_spec : {M : Type 1} → statement M
 put_segment_spec =
     tie.close
     (tie.spec
-    (λ c κs. search (put_segment_cases, rules))  -- entry-at-requires
-    (λ c κs. search (put_segment_cases, rules))  -- run-of-requires
-    (λ c κs. search (put_segment_cases, rules))  -- used-of-requires
-    (λ c κs. search (put_segment_cases, rules))  -- put-keys-requires
-    (λ c. search (put_segment_cases, rules))  -- same-length
-    (λ c. search (put_segment_cases, rules)))
+    (λ c κs. search (put_segment_cases, rules))  -- entry_at-x-requires
+    (λ c κs. search (put_segment_cases, rules))  -- run_of-run-requires
+    (λ c κs. search (put_segment_cases, rules))  -- used_of-used-requires
+    (λ c κs. search (put_segment_cases, rules))  -- put_keys-requires
+    (λ c. search (put_segment_cases, rules))  -- shape_of-out
+    (λ c. search (put_segment_cases, rules)))  -- returns

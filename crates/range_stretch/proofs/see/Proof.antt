@@ -7,10 +7,10 @@ pub see_spec : {M : Type 1} → statement M
 see_spec =
     tie.close
     (tie.spec
-    (λ c κs. search (see_cases, rules))  -- entry-at-requires
+    (λ c κs. search (see_cases, rules))  -- entry_at-x-requires
     (λ c κs. search (see_cases, rules))  -- damaged-requires
-    (λ c. search (see_cases, rules))  -- returns
-    (λ c κs. search (see_cases, rules))  -- run-of-requires
-    (λ c κs. search (see_cases, rules))  -- used-of-requires
+    (λ c. search (see_cases, rules))  -- returns-then-damaged
+    (λ c κs. search (see_cases, rules))  -- run_of-run-requires
+    (λ c κs. search (see_cases, rules))  -- used_of-used-requires
     (λ c κs. search (see_cases, rules))  -- walk-requires
-    (λ c. search (see_cases, rules)))
+    (λ c. search (see_cases, rules)))  -- returns

@@ -8,6 +8,6 @@ tally_spec =
     tie.close
     (tie.spec
     (λ c κs. search (tally_cases, rules))  -- within-requires
-    (λ c. search (tally_cases, rules))  -- add-result
-    (λ c. search (tally_cases, rules))  -- returns
-    (λ c. search (tally_cases, rules)))
+    (λ c. search (tally_cases, rules))  -- overflow_add-result
+    (λ c. search (tally_cases, rules))  -- returns-then-within
+    (λ c. search (tally_cases, rules)))  -- returns

@@ -7,5 +7,5 @@ pub within_spec : {M : Type 1} → statement M
 within_spec =
     tie.close
     (tie.spec
-    (λ c. search (within_cases, rules))  -- returns
-    (λ c. search (within_cases, rules)))
+    (λ c. search (within_cases, rules))  -- returns-then-low-k
+    (λ c. search (within_cases, rules)))  -- returns

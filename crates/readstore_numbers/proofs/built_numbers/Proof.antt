@@ -7,9 +7,9 @@ pub built_numbers_spec : {M : Type 1} → statement M
 built_numbers_spec =
     tie.close
     (tie.spec
-    (λ c. search (built_cases, rules))  -- enum-known-a
-    (λ c κs. search (built_cases, rules))  -- word-requires
-    (λ c. search (built_cases, rules))  -- enum-known-a-2
-    (λ c κs. search (built_cases, rules))  -- refusal-numbers-requires
-    (λ c. search (built_cases, rules))  -- returns
-    (λ c. search (built_cases, rules)))
+    (λ c. search (built_cases, rules))  -- enum_known-a
+    (λ c κs. search (built_cases, rules))  -- word-segments-requires
+    (λ c. search (built_cases, rules))  -- enum_known-a-in-Refused-1
+    (λ c κs. search (built_cases, rules))  -- refusal_numbers-requires
+    (λ c. search (built_cases, rules))  -- returns-in-Made
+    (λ c. search (built_cases, rules)))  -- returns-in-Refused

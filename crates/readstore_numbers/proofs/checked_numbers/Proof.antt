@@ -7,8 +7,8 @@ pub checked_numbers_spec : {M : Type 1} → statement M
 checked_numbers_spec =
     tie.close
     (tie.spec
-    (λ c. search (checked_cases, rules))  -- enum-told
-    (λ c. search (checked_cases, rules))  -- enum-known-a
-    (λ c κs. search (checked_cases, rules))  -- refusal-numbers-requires
-    (λ c. search (checked_cases, rules))  -- returns
-    (λ c. search (checked_cases, rules)))
+    (λ c. search (checked_cases, rules))  -- enum_told-1
+    (λ c. search (checked_cases, rules))  -- enum_known-a
+    (λ c κs. search (checked_cases, rules))  -- refusal_numbers-requires
+    (λ c. search (checked_cases, rules))  -- returns-in-Good
+    (λ c. search (checked_cases, rules)))  -- returns-in-Refused

@@ -7,16 +7,16 @@ pub inserted_numbers_spec : {M : Type 1} → statement M
 inserted_numbers_spec =
     tie.close
     (tie.spec
-    (λ c. search (inserted_cases, rules))  -- enum-known-a
-    (λ c κs. search (inserted_cases, rules))  -- word-requires
-    (λ c κs. search (inserted_cases, rules))  -- word-requires-2
-    (λ c. search (inserted_cases, rules))  -- enum-known-a-2
-    (λ c κs. search (inserted_cases, rules))  -- word-requires-3
-    (λ c κs. search (inserted_cases, rules))  -- word-requires-4
-    (λ c κs. search (inserted_cases, rules))  -- word-requires-5
-    (λ c κs. search (inserted_cases, rules))  -- word-requires-6
-    (λ c. search (inserted_cases, rules))  -- enum-known-a-3
-    (λ c κs. search (inserted_cases, rules))  -- refusal-numbers-requires
-    (λ c. search (inserted_cases, rules))  -- returns
-    (λ c. search (inserted_cases, rules))  -- returns-2
-    (λ c. search (inserted_cases, rules)))
+    (λ c. search (inserted_cases, rules))  -- enum_known-a
+    (λ c κs. search (inserted_cases, rules))  -- word-i-requires
+    (λ c κs. search (inserted_cases, rules))  -- word-j-requires
+    (λ c. search (inserted_cases, rules))  -- enum_known-a-in-Merged-1
+    (λ c κs. search (inserted_cases, rules))  -- word-i-requires-in-Merged
+    (λ c κs. search (inserted_cases, rules))  -- word-t-requires
+    (λ c κs. search (inserted_cases, rules))  -- word-keys-requires
+    (λ c κs. search (inserted_cases, rules))  -- word-segments-requires
+    (λ c. search (inserted_cases, rules))  -- enum_known-a-in-Refused-1
+    (λ c κs. search (inserted_cases, rules))  -- refusal_numbers-requires
+    (λ c. search (inserted_cases, rules))  -- returns-in-Buffered
+    (λ c. search (inserted_cases, rules))  -- returns-in-Merged
+    (λ c. search (inserted_cases, rules)))  -- returns-in-Refused

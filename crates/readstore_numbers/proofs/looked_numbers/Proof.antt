@@ -7,15 +7,15 @@ pub looked_numbers_spec : {M : Type 1} → statement M
 looked_numbers_spec =
     tie.close
     (tie.spec
-    (λ c. search (looked_cases, rules))  -- enum-told
-    (λ c. search (looked_cases, rules))  -- enum-known-a
-    (λ c κs. search (looked_cases, rules))  -- word-requires
-    (λ c. search (looked_cases, rules))  -- enum-known-a-2
-    (λ c κs. search (looked_cases, rules))  -- word-requires-2
-    (λ c κs. search (looked_cases, rules))  -- word-requires-3
-    (λ c. search (looked_cases, rules))  -- enum-known-a-3
-    (λ c κs. search (looked_cases, rules))  -- refusal-numbers-requires
-    (λ c. search (looked_cases, rules))  -- returns
-    (λ c. search (looked_cases, rules))  -- returns-2
-    (λ c. search (looked_cases, rules))  -- returns-3
-    (λ c. search (looked_cases, rules)))
+    (λ c. search (looked_cases, rules))  -- enum_told-1
+    (λ c. search (looked_cases, rules))  -- enum_known-a
+    (λ c κs. search (looked_cases, rules))  -- word-position-requires
+    (λ c. search (looked_cases, rules))  -- enum_known-a-in-InBuffer-1
+    (λ c κs. search (looked_cases, rules))  -- word-i-requires
+    (λ c κs. search (looked_cases, rules))  -- word-j-requires
+    (λ c. search (looked_cases, rules))  -- enum_known-a-in-Refused-1
+    (λ c κs. search (looked_cases, rules))  -- refusal_numbers-requires
+    (λ c. search (looked_cases, rules))  -- returns-in-Absent
+    (λ c. search (looked_cases, rules))  -- returns-in-InRun
+    (λ c. search (looked_cases, rules))  -- returns-in-InBuffer
+    (λ c. search (looked_cases, rules)))  -- returns-in-Refused

@@ -7,9 +7,9 @@ pub ranged_numbers_spec : {M : Type 1} → statement M
 ranged_numbers_spec =
     tie.close
     (tie.spec
-    (λ c. search (ranged_cases, rules))  -- enum-known-a
-    (λ c κs. search (ranged_cases, rules))  -- word-requires
-    (λ c. search (ranged_cases, rules))  -- enum-known-a-2
-    (λ c κs. search (ranged_cases, rules))  -- refusal-numbers-requires
-    (λ c. search (ranged_cases, rules))  -- returns
-    (λ c. search (ranged_cases, rules)))
+    (λ c. search (ranged_cases, rules))  -- enum_known-a
+    (λ c κs. search (ranged_cases, rules))  -- word-many-requires
+    (λ c. search (ranged_cases, rules))  -- enum_known-a-in-Refused-1
+    (λ c κs. search (ranged_cases, rules))  -- refusal_numbers-requires
+    (λ c. search (ranged_cases, rules))  -- returns-in-Listed
+    (λ c. search (ranged_cases, rules)))  -- returns-in-Refused

@@ -7,7 +7,7 @@ pub refusal_numbers_spec : {M : Type 1} → statement M
 refusal_numbers_spec =
     tie.close
     (tie.spec
-    (λ c κs. search (refusal_cases, rules))  -- number-requires
+    (λ c κs. search (refusal_cases, rules))  -- number-number-requires
     (λ c κs. search (refusal_cases, rules))  -- place-requires
-    (λ c κs. search (refusal_cases, rules))  -- word-requires
-    (λ c. search (refusal_cases, rules)))
+    (λ c κs. search (refusal_cases, rules))  -- word-place-requires
+    (λ c. search (refusal_cases, rules)))  -- returns

@@ -7,8 +7,8 @@ pub sizes_of_spec : {M : Type 1} → statement M
 sizes_of_spec =
     tie.close
     (tie.spec
-    (λ c κs. search rules)  -- size-requires
-    (λ c κs. search rules)  -- size-requires-2
-    (λ c κs. search rules)  -- size-requires-3
-    (λ c κs. search rules)  -- size-requires-4
-    (λ c. search (sizes_cases, rules)))
+    (λ c κs. search rules)  -- size-e-requires
+    (λ c κs. search rules)  -- size-b-requires
+    (λ c κs. search rules)  -- size-n-requires
+    (λ c κs. search rules)  -- size-s-requires
+    (λ c. search (sizes_cases, rules)))  -- returns
