@@ -1,8 +1,6 @@
 // How many calls were compared and how many differ, of each kind; and how many gave each answer.
 #![tactic(auto)]
 
-use std::io;
-use std::io::Print;
 use std::num::wrapping_add_u64;
 
 // The kinds: 0 build, 1 check, 2 lookup, 3 range, 4 insert, 5 writing, 6 reading. Cell `kind` counts the calls, 8 + kind those that differ, and
@@ -24,55 +22,63 @@ fn same_answer(a: [u64; 8], b: [u64; 8]) -> bool {
 }
 
 // The name of a kind.
-fn write_name(out: &impl Print, kind: usize) -> io::Result<()> {
+fn write_name(kind: usize) {
     match kind {
-        0 => print!(out; "build"),
-        1 => print!(out; "check"),
-        2 => print!(out; "lookup"),
-        3 => print!(out; "range"),
-        4 => print!(out; "insert"),
-        5 => print!(out; "image writing"),
-        _ => print!(out; "image reading"),
+        0 => {
+            io::write_all(1, b"build");
+        }
+        1 => {
+            io::write_all(1, b"check");
+        }
+        2 => {
+            io::write_all(1, b"lookup");
+        }
+        3 => {
+            io::write_all(1, b"range");
+        }
+        4 => {
+            io::write_all(1, b"insert");
+        }
+        5 => {
+            io::write_all(1, b"image writing");
+        }
+        _ => {
+            io::write_all(1, b"image reading");
+        }
     }
 }
 
 // The eight numbers of an answer.
-fn write_answer(out: &impl Print, a: [u64; 8]) -> io::Result<()> {
+fn write_answer(a: [u64; 8]) {
     for i in 0..8 {
-        let number = a[i];
-        print!(out; " {number}")?;
+        io::write_all(1, b" ");
+        io::print_decimal(1, a[i]);
     }
-    Ok(())
 }
 
 // The two answers; where they are the same, that cells differ.
-fn write_both(out: &impl Print, a: [u64; 8], p: [u64; 8]) -> io::Result<()> {
+fn write_both(a: [u64; 8], p: [u64; 8]) {
     if same_answer(a, p) {
-        print!(out; " cells; both answer")?;
-        return write_answer(out, a);
+        io::write_all(1, b" cells; both answer");
+        write_answer(a);
+        return;
     }
-    write_answer(out, a)?;
-    print!(out; " but plain")?;
-    write_answer(out, p)
+    write_answer(a);
+    io::write_all(1, b" but plain");
+    write_answer(p);
 }
 
 // The first difference of a kind is printed.
-fn differ(
-    out: &impl Print,
-    tally: &mut [u64; 32],
-    kind: usize,
-    round: u64,
-    a: [u64; 8],
-    p: [u64; 8],
-) -> io::Result<()> {
+fn differ(tally: &mut [u64; 32], kind: usize, round: u64, a: [u64; 8], p: [u64; 8]) {
     bump(tally, 8 + kind % 8);
     if tally[8 + kind % 8] == 1 {
-        write_name(out, kind)?;
-        print!(out; " differs, round {round}:")?;
-        write_both(out, a, p)?;
-        println!(out; "")?;
+        write_name(kind);
+        io::write_all(1, b" differs, round ");
+        io::print_decimal(1, round);
+        io::write_all(1, b":");
+        write_both(a, p);
+        io::write_all(1, b"\n");
     }
-    Ok(())
 }
 
 // The cell that counts the answers with a refusal of this number.
@@ -85,54 +91,55 @@ fn cell_of(number: u64) -> usize {
 
 // A call that was made: counted, and printed if it is the first of its kind to differ. `cells`: whether all the cells agree.
 pub fn report(
-    out: &impl Print,
     tally: &mut [u64; 32],
     kind: usize,
     round: u64,
     a: [u64; 8],
     p: [u64; 8],
     cells: bool,
-) -> io::Result<()> {
+) {
     bump(tally, kind);
     bump(tally, cell_of(a[0]));
     if same_answer(a, p) {
         if cells {
-            return Ok(());
+            return;
         }
     }
-    differ(out, tally, kind, round, a, p)
+    differ(tally, kind, round, a, p);
 }
 
 // How many calls of a kind there were, and how many differ.
-fn write_kind(out: &impl Print, tally: &[u64; 32], kind: usize) -> io::Result<()> {
-    let made = tally[kind % 8];
-    let differing = tally[8 + kind % 8];
-    write_name(out, kind)?;
-    println!(out; " {made} compared, {differing} differ")
+fn write_kind(tally: &[u64; 32], kind: usize) {
+    write_name(kind);
+    io::write_all(1, b" ");
+    io::print_decimal(1, tally[kind % 8]);
+    io::write_all(1, b" compared, ");
+    io::print_decimal(1, tally[8 + kind % 8]);
+    io::write_all(1, b" differ\n");
 }
 
 // The same of every kind.
-fn write_kinds(out: &impl Print, tally: &[u64; 32]) -> io::Result<()> {
+fn write_kinds(tally: &[u64; 32]) {
     for kind in 0..7 {
-        write_kind(out, tally, kind)?;
+        write_kind(tally, kind);
     }
-    Ok(())
 }
 
 // How many calls were refused, by the number of the refusal.
-fn write_refusals(out: &impl Print, tally: &[u64; 32]) -> io::Result<()> {
+fn write_refusals(tally: &[u64; 32]) {
     for number in 1..11 {
-        let refused = tally[cell_of(number) % 32];
-        print!(out; ", refused {number}: {refused}")?;
+        io::write_all(1, b", refused ");
+        io::print_decimal(1, number);
+        io::write_all(1, b": ");
+        io::print_decimal(1, tally[cell_of(number) % 32]);
     }
-    Ok(())
 }
 
 // The whole tally.
-pub fn write_all(out: &impl Print, tally: &[u64; 32]) -> io::Result<()> {
-    let accepted = tally[16];
-    write_kinds(out, tally)?;
-    print!(out; "accepted: {accepted}")?;
-    write_refusals(out, tally)?;
-    println!(out; "")
+pub fn write_all(tally: &[u64; 32]) {
+    write_kinds(tally);
+    io::write_all(1, b"accepted: ");
+    io::print_decimal(1, tally[16]);
+    write_refusals(tally);
+    io::write_all(1, b"\n");
 }
