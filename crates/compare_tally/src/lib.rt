@@ -1,4 +1,6 @@
 // How many calls were compared and how many differ, of each kind; and how many gave each answer.
+#![tactic(auto)]
+
 use std::num::wrapping_add_u64;
 
 // The kinds: 0 build, 1 check, 2 lookup, 3 range, 4 insert, 5 writing, 6 reading. Cell `kind` counts the calls, 8 + kind those that differ, and

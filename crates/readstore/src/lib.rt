@@ -20,8 +20,7 @@ use readstore_numbers::{
 };
 
 // The first n keys are cut with the bound e, and the entries written. [3] is s.
-#[unsafe(no_mangle)]
-pub extern "C" fn readstore_build(
+pub fn readstore_build(
     keys: &[u64],
     table: &mut [u64],
     buffers: &[u64],
@@ -45,8 +44,7 @@ pub extern "C" fn readstore_build(
 }
 
 // Whether the store keeps every rule. [2] is 1 if it does.
-#[unsafe(no_mangle)]
-pub extern "C" fn readstore_check(
+pub fn readstore_check(
     keys: &[u64],
     table: &[u64],
     buffers: &[u64],
@@ -64,8 +62,7 @@ pub extern "C" fn readstore_check(
 }
 
 // Where k stands. [2] is 0 absent; 1 in a run, [3] the position; 2 in a buffer, [3] the segment, [4] the slot.
-#[unsafe(no_mangle)]
-pub extern "C" fn readstore_lookup(
+pub fn readstore_lookup(
     keys: &[u64],
     table: &[u64],
     buffers: &[u64],
@@ -84,8 +81,7 @@ pub extern "C" fn readstore_lookup(
 }
 
 // The reads from low to high, both ends among them, from the out slice's start. [3] is how many.
-#[unsafe(no_mangle)]
-pub extern "C" fn readstore_range(
+pub fn readstore_range(
     keys: &[u64],
     table: &[u64],
     buffers: &[u64],
@@ -107,8 +103,7 @@ pub extern "C" fn readstore_range(
 }
 
 // k is taken in. [2] is 1 buffered, [3] the segment, [4] the slot; 2 merged, [3] the segment, [4] into how many, [5] the new n, [6] the new s.
-#[unsafe(no_mangle)]
-pub extern "C" fn readstore_insert(
+pub fn readstore_insert(
     keys: &mut [u64],
     table: &mut [u64],
     buffers: &mut [u64],
@@ -130,8 +125,7 @@ pub extern "C" fn readstore_insert(
 }
 
 // The stored form of the store, from the out slice's start. [3] is its length in bytes.
-#[unsafe(no_mangle)]
-pub extern "C" fn readstore_image_write(
+pub fn readstore_image_write(
     keys: &[u64],
     table: &[u64],
     buffers: &[u64],
@@ -151,8 +145,7 @@ pub extern "C" fn readstore_image_write(
 }
 
 // A stored form read into the slices. [3] is e, [4] B, [5] n, [6] s.
-#[unsafe(no_mangle)]
-pub extern "C" fn readstore_image_read(
+pub fn readstore_image_read(
     image: &[u8],
     keys: &mut [u64],
     table: &mut [u64],
