@@ -8,9 +8,9 @@ pub show_spec : {M : Type 1} → statement M
 show_spec =
     tie.close
     (tie.spec
-    (λ c. search rules)  -- slice-aggregate-run
-    (λ c κs. search rules)  -- run-requires
-    (λ c. search rules)  -- array-share-prefix-out
-    (λ c. simp length-take (omega arith))  -- slice-aggregate-write-all
-    (λ c κs. search rules)  -- write-all-requires
-    (λ c. search rules))
+    (λ c. search rules)  -- slice_bounds-run-end
+    (λ c κs. search rules)  -- run-length-requires
+    (λ c. search rules)  -- slice_bounds-out-end
+    (λ c. simp length-take (omega arith))  -- slice_bounds-write_all-end
+    (λ c κs. search rules)  -- write_all-requires
+    (λ c. search rules))  -- returns

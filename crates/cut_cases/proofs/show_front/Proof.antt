@@ -8,7 +8,7 @@ pub show_front_spec : {M : Type 1} → statement M
 show_front_spec =
     tie.close
     (tie.spec
-    (λ c. search rules)  -- array-share-prefix-text
-    (λ c. simp length-take (omega arith))  -- slice-aggregate-show
+    (λ c. search rules)  -- slice_bounds-text-end
+    (λ c. simp length-take (omega arith))  -- slice_bounds-show-end
     (λ c κs. search rules)  -- show-requires
-    (λ c. search rules))
+    (λ c. search rules))  -- returns

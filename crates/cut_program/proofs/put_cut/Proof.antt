@@ -7,14 +7,14 @@ pub put_cut_spec : {M : Type 1} → statement M
 put_cut_spec =
     tie.close
     (tie.spec
-    (λ c κs. search (cut_cases, rules))  -- build-requires
-    (λ c. search (cut_cases, rules))  -- enum-known-built
-    (λ c κs. search (cut_cases, rules))  -- put-report-requires
-    (λ c. search (cut_cases, rules))  -- enum-known-built-2
-    (λ c κs. search (cut_cases, rules))  -- put-refusal-requires
-    (λ c. search (cut_cases, rules))  -- same-length
-    (λ c. search (cut_cases, rules))  -- same-length-2
-    (λ c. (search cut_made_past, (search cut_made_short, search cut_made_written)))  -- returns
-    (λ c. search (cut_cases, rules))  -- same-length-3
-    (λ c. search (cut_cases, rules))  -- same-length-4
-    (λ c. (search cut_refused_past, (search refused_short, search cut_refused_written))))
+    (λ c κs. search (cut_cases, rules))  -- build-built-requires
+    (λ c. search (cut_cases, rules))  -- enum_known-built
+    (λ c κs. search (cut_cases, rules))  -- put_report-requires
+    (λ c. search (cut_cases, rules))  -- enum_known-built-in-Refused-1
+    (λ c κs. search (cut_cases, rules))  -- put_refusal-requires
+    (λ c. search (cut_cases, rules))  -- shape_of-out-in-Made
+    (λ c. search (cut_cases, rules))  -- shape_of-table-in-Made
+    (λ c. (search cut_made_past, (search cut_made_short, search cut_made_written)))  -- returns-in-Made
+    (λ c. search (cut_cases, rules))  -- shape_of-out-in-Refused
+    (λ c. search (cut_cases, rules))  -- shape_of-table-in-Refused
+    (λ c. (search cut_refused_past, (search refused_short, search cut_refused_written))))  -- returns-in-Refused

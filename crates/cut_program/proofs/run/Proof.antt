@@ -7,16 +7,16 @@ pub run_spec : {M : Type 1} → statement M
 run_spec =
     tie.close
     (tie.spec
-    (λ c. search (run_cases, rules))  -- slice-aggregate-read-list
-    (λ c κs. search (run_cases, rules))  -- read-list-requires
-    (λ c. search (run_cases, rules))  -- enum-known-listed
-    (λ c. search (run_cases, rules))  -- slice-aggregate-put-cut
-    (λ c. search (run_cases, rules))  -- slice-aggregate-put-cut-2
-    (λ c. search (run_cases, rules))  -- slice-aggregate-put-cut-3
-    (λ c κs. search (run_cases, rules))  -- put-cut-requires
-    (λ c. search (run_cases, rules))  -- enum-known-listed-2
-    (λ c κs. search (run_cases, rules))  -- put-refusal-requires
-    (λ c. search (run_cases, rules))  -- same-length
-    (λ c. (search run_built_past, (search rules, search run_built_written)))  -- returns
-    (λ c. search (run_cases, rules))  -- same-length-2
-    (λ c. (search run_refused_past, (search refused_short, search run_refused_written))))
+    (λ c. search (run_cases, rules))  -- slice_bounds-read_list-end
+    (λ c κs. search (run_cases, rules))  -- read_list-listed-requires
+    (λ c. search (run_cases, rules))  -- enum_known-listed
+    (λ c. search (run_cases, rules))  -- slice_bounds-put_cut-end
+    (λ c. search (run_cases, rules))  -- slice_bounds-put_cut-end-in-List
+    (λ c. search (run_cases, rules))  -- slice_bounds-put_cut-end-in-List-2
+    (λ c κs. search (run_cases, rules))  -- put_cut-requires
+    (λ c. search (run_cases, rules))  -- enum_known-listed-in-Refused-1
+    (λ c κs. search (run_cases, rules))  -- put_refusal-requires
+    (λ c. search (run_cases, rules))  -- shape_of-out-in-List
+    (λ c. (search run_built_past, (search rules, search run_built_written)))  -- returns-in-List
+    (λ c. search (run_cases, rules))  -- shape_of-out-in-Refused
+    (λ c. (search run_refused_past, (search refused_short, search run_refused_written))))  -- returns-in-Refused

@@ -10,7 +10,7 @@ readstore_build_spec =
     (λ c κs. search (build_calls, rules))  -- size-requires
     (λ c κs. search (build_calls, rules))  -- size-requires-2
     (λ c κs. search (build_calls, rules))  -- size-requires-3
-    (λ c κs. search (build_calls, rules))  -- build-requires
-    (λ c κs. search (build_calls, rules))  -- built-numbers-requires
-    (λ c. search (build_calls, rules))  -- same-length
-    (λ c. search (build_calls, rules)))
+    (λ c κs. search (build_calls, rules))  -- build-a-requires
+    (λ c κs. search (build_calls, rules))  -- built_numbers-requires
+    (λ c. search (build_calls, rules))  -- shape_of-table
+    (λ c. search (build_calls, rules)))  -- returns

@@ -7,7 +7,7 @@ pub readstore_check_spec : {M : Type 1} → statement M
 readstore_check_spec =
     tie.close
     (tie.spec
-    (λ c κs. search (check_calls, rules))  -- sizes-of-requires
-    (λ c κs. search (check_calls, rules))  -- check-requires
-    (λ c κs. search (check_calls, rules))  -- checked-numbers-requires
-    (λ c. search (check_calls, rules)))
+    (λ c κs. search (check_calls, rules))  -- sizes_of-z-requires
+    (λ c κs. search (check_calls, rules))  -- check-a-requires
+    (λ c κs. search (check_calls, rules))  -- checked_numbers-requires
+    (λ c. search (check_calls, rules)))  -- returns

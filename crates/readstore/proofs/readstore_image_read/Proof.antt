@@ -7,9 +7,9 @@ pub readstore_image_read_spec : {M : Type 1} → statement M
 readstore_image_read_spec =
     tie.close
     (tie.spec
-    (λ c κs. search (read_calls, rules))  -- read-image-requires
-    (λ c κs. search (read_calls, rules))  -- loaded-numbers-requires
-    (λ c. search (read_calls, rules))  -- same-length
-    (λ c. search (read_calls, rules))  -- same-length-2
-    (λ c. search (read_calls, rules))  -- same-length-3
-    (λ c. (search read_answered, (search read_keys, (search read_table, search read_buffers)))))
+    (λ c κs. search (read_calls, rules))  -- read_image-a-requires
+    (λ c κs. search (read_calls, rules))  -- loaded_numbers-requires
+    (λ c. search (read_calls, rules))  -- shape_of-keys
+    (λ c. search (read_calls, rules))  -- shape_of-table
+    (λ c. search (read_calls, rules))  -- shape_of-buffers
+    (λ c. (search read_answered, (search read_keys, (search read_table, search read_buffers)))))  -- returns

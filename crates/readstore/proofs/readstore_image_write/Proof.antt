@@ -7,8 +7,8 @@ pub readstore_image_write_spec : {M : Type 1} → statement M
 readstore_image_write_spec =
     tie.close
     (tie.spec
-    (λ c κs. search (write_calls, rules))  -- sizes-of-requires
-    (λ c κs. search (write_calls, rules))  -- write-image-requires
-    (λ c κs. search (write_calls, rules))  -- written-numbers-requires
-    (λ c. search (write_calls, rules))  -- same-length
-    (λ c. search (write_calls, rules)))
+    (λ c κs. search (write_calls, rules))  -- sizes_of-z-requires
+    (λ c κs. search (write_calls, rules))  -- write_image-a-requires
+    (λ c κs. search (write_calls, rules))  -- written_numbers-requires
+    (λ c. search (write_calls, rules))  -- shape_of-out
+    (λ c. search (write_calls, rules)))  -- returns

@@ -7,10 +7,10 @@ pub readstore_insert_spec : {M : Type 1} → statement M
 readstore_insert_spec =
     tie.close
     (tie.spec
-    (λ c κs. search (insert_calls, rules))  -- sizes-of-requires
-    (λ c κs. search (insert_calls, rules))  -- insert-requires
-    (λ c κs. search (insert_calls, rules))  -- inserted-numbers-requires
-    (λ c. search (insert_calls, rules))  -- same-length
-    (λ c. search (insert_calls, rules))  -- same-length-2
-    (λ c. search (insert_calls, rules))  -- same-length-3
-    (λ c. (search insert_answered, (search insert_keys, (search insert_table, search insert_buffers)))))
+    (λ c κs. search (insert_calls, rules))  -- sizes_of-z-requires
+    (λ c κs. search (insert_calls, rules))  -- insert-a-requires
+    (λ c κs. search (insert_calls, rules))  -- inserted_numbers-requires
+    (λ c. search (insert_calls, rules))  -- shape_of-keys
+    (λ c. search (insert_calls, rules))  -- shape_of-table
+    (λ c. search (insert_calls, rules))  -- shape_of-buffers
+    (λ c. (search insert_answered, (search insert_keys, (search insert_table, search insert_buffers)))))  -- returns

@@ -7,7 +7,7 @@ pub readstore_lookup_spec : {M : Type 1} → statement M
 readstore_lookup_spec =
     tie.close
     (tie.spec
-    (λ c κs. search (lookup_calls, rules))  -- sizes-of-requires
-    (λ c κs. search (lookup_calls, rules))  -- lookup-requires
-    (λ c κs. search (lookup_calls, rules))  -- looked-numbers-requires
-    (λ c. search (lookup_calls, rules)))
+    (λ c κs. search (lookup_calls, rules))  -- sizes_of-z-requires
+    (λ c κs. search (lookup_calls, rules))  -- lookup-a-requires
+    (λ c κs. search (lookup_calls, rules))  -- looked_numbers-requires
+    (λ c. search (lookup_calls, rules)))  -- returns

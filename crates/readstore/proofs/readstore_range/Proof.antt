@@ -7,8 +7,8 @@ pub readstore_range_spec : {M : Type 1} → statement M
 readstore_range_spec =
     tie.close
     (tie.spec
-    (λ c κs. search (range_calls, rules))  -- sizes-of-requires
-    (λ c κs. search (range_calls, rules))  -- range-requires
-    (λ c κs. search (range_calls, rules))  -- ranged-numbers-requires
-    (λ c. search (range_calls, rules))  -- same-length
-    (λ c. search (range_calls, rules)))
+    (λ c κs. search (range_calls, rules))  -- sizes_of-z-requires
+    (λ c κs. search (range_calls, rules))  -- range-a-requires
+    (λ c κs. search (range_calls, rules))  -- ranged_numbers-requires
+    (λ c. search (range_calls, rules))  -- shape_of-out
+    (λ c. search (range_calls, rules)))  -- returns

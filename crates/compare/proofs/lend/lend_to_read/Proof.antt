@@ -7,19 +7,19 @@ pub lend_to_read_spec : {M : Type 1} → statement M
 lend_to_read_spec =
     tie.close
     (tie.spec
-    (λ c κs. search rules)  -- cap-requires
-    (λ c κs. search rules)  -- cap-requires-2
-    (λ c κs. search rules)  -- cap-requires-3
-    (λ c κs. search rules)  -- cap-requires-4
-    (λ c κs. search rules)  -- cap-requires-5
-    (λ c. search (part_length, rules))  -- slice-aggregate-read-from
-    (λ c. search (part_length, rules))  -- slice-aggregate-read-from-2
-    (λ c. search (part_length, rules))  -- slice-aggregate-read-from-3
-    (λ c. search rules)  -- slice-relend-prefix-read-from
-    (λ c. search (part_length, rules))  -- slice-aggregate-read-from-4
-    (λ c. search rules)  -- slice-relend-prefix-read-from-2
-    (λ c. search (part_length, rules))  -- slice-aggregate-read-from-5
-    (λ c κs. search rules)  -- read-from-requires
-    (λ c. search rules)  -- same-length
-    (λ c. search rules)  -- same-length-2
-    (λ c. search rules))
+    (λ c κs. search rules)  -- cap-k-requires
+    (λ c κs. search rules)  -- cap-t-requires
+    (λ c κs. search rules)  -- cap-l-requires
+    (λ c κs. search rules)  -- cap-o-requires
+    (λ c κs. search rules)  -- cap-i-requires
+    (λ c. search (part_length, rules))  -- slice_bounds-read_from-end
+    (λ c. search (part_length, rules))  -- slice_bounds-read_from-end-2
+    (λ c. search (part_length, rules))  -- slice_bounds-read_from-end-3
+    (λ c. search rules)  -- slice_bounds-read_from-end-4
+    (λ c. search (part_length, rules))  -- slice_bounds-read_from-end-5
+    (λ c. search rules)  -- slice_bounds-read_from-end-6
+    (λ c. search (part_length, rules))  -- slice_bounds-read_from-end-7
+    (λ c κs. search rules)  -- read_from-requires
+    (λ c. search rules)  -- shape_of-out
+    (λ c. search rules)  -- shape_of-image
+    (λ c. search rules))  -- returns

@@ -7,19 +7,19 @@ pub lend_to_write_spec : {M : Type 1} → statement M
 lend_to_write_spec =
     tie.close
     (tie.spec
-    (λ c κs. search rules)  -- cap-requires
-    (λ c κs. search rules)  -- cap-requires-2
-    (λ c κs. search rules)  -- cap-requires-3
-    (λ c κs. search rules)  -- cap-requires-4
-    (λ c. search rules)  -- slice-relend-prefix-write-to
-    (λ c. search (part_length, rules))  -- slice-aggregate-write-to
-    (λ c. search rules)  -- slice-relend-prefix-write-to-2
-    (λ c. search (part_length, rules))  -- slice-aggregate-write-to-2
-    (λ c. search rules)  -- slice-relend-prefix-write-to-3
-    (λ c. search (part_length, rules))  -- slice-aggregate-write-to-3
-    (λ c. search (part_length, rules))  -- slice-aggregate-write-to-4
-    (λ c κs. search rules)  -- write-to-requires
-    (λ c. search rules)  -- same-length
-    (λ c. search rules)  -- same-length-2
-    (λ c. search rules)  -- same-length-3
-    (λ c. search rules))
+    (λ c κs. search rules)  -- cap-k-requires
+    (λ c κs. search rules)  -- cap-t-requires
+    (λ c κs. search rules)  -- cap-l-requires
+    (λ c κs. search rules)  -- cap-i-requires
+    (λ c. search rules)  -- slice_bounds-write_to-end
+    (λ c. search (part_length, rules))  -- slice_bounds-write_to-end-2
+    (λ c. search rules)  -- slice_bounds-write_to-end-3
+    (λ c. search (part_length, rules))  -- slice_bounds-write_to-end-4
+    (λ c. search rules)  -- slice_bounds-write_to-end-5
+    (λ c. search (part_length, rules))  -- slice_bounds-write_to-end-6
+    (λ c. search (part_length, rules))  -- slice_bounds-write_to-end-7
+    (λ c κs. search rules)  -- write_to-requires
+    (λ c. search rules)  -- shape_of-keys
+    (λ c. search rules)  -- shape_of-table
+    (λ c. search rules)  -- shape_of-slots
+    (λ c. search rules))  -- returns
