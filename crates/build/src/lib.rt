@@ -1,4 +1,6 @@
 // Build: the keys given are judged and cut, and the segments' entries written from the table's start. What it refuses it leaves as it was.
+#![tactic(auto)]
+
 ghost use Rattle.std.specs.Prelude.{◌≡◌, Bool, leb, length};
 ghost use Rattle.table.specs.Limits.{segment_room};
 ghost use Rattle.cone.specs.Rule.{cut};

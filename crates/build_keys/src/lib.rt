@@ -1,4 +1,6 @@
 // The keys that are given to be cut: each a key, and above the one before; or where the lowest fault is, and what it is. Nothing else is asked of them.
+#![tactic(auto)]
+
 ghost use Rattle.std.specs.Prelude.{◌≡◌, Bool};
 ghost use Rattle.build_keys.specs.Faults.{good_of, fault_of, wrong_of, Held, HeldAt};
 ghost use Rattle.build_keys.specs.Fronts.{FourHeld, four_of, Front, GoodFront};

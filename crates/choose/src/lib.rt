@@ -1,4 +1,6 @@
 // The choice of a segment: the one that a key belongs to, and its entry, or that this entry is damaged.
+#![tactic(auto)]
+
 ghost use Rattle.std.specs.Prelude.{◌≡◌, Bool};
 ghost use Rattle.table.specs.Entries.{Rows, Row};
 ghost use Rattle.choose.specs.Chosen.{chosen_of};

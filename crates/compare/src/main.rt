@@ -4,6 +4,8 @@
 //
 // The sequences: on stores that were built and grow by inserts, then on the same with cells, counts and lengths gone wrong; and on small stores whose
 // numbers are all drawn.
+#![tactic(auto)]
+
 use both::both;
 use compare_draws::faults::hurt;
 use compare_draws::keys::draw_list;

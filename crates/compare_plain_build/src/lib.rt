@@ -1,4 +1,6 @@
 // Build, from document 01 alone: the cut by its rule, every earlier key tested for each new one.
+#![tactic(auto)]
+
 use compare_plain::cells::{
     NONE, above, answer, apart, at, copy, product, put_five, refused, size, sum,
 };

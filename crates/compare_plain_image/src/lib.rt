@@ -1,4 +1,6 @@
 // The stored form, from document 01 alone: written and read byte by byte.
+#![tactic(auto)]
+
 use compare_plain::cells::{
     NONE, answer, at, byte_at, bytes, product, put, put_byte, put_five, reaches, refused, sum,
 };

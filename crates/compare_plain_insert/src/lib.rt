@@ -1,4 +1,6 @@
 // Insert, from document 01 alone: what it answers is judged first, then made anew and written.
+#![tactic(auto)]
+
 use compare_plain::cells::{NONE, above, answer, copy, count_below, product, refused, rising, sum};
 use compare_plain::segment::{base, choose, damaged, held, key_room, lent, segment_room};
 use compare_plain_build::cut;

@@ -1,4 +1,6 @@
 // What an insert makes and writes, from document 01 alone: everything is made anew in a list of its own, then copied back.
+#![tactic(auto)]
+
 use compare_plain::cells::{above, copy, count_below, product, put, put_five, size, sum};
 use compare_plain::segment::{base, end, first, held, rise, run};
 use compare_plain_build::cut;

@@ -1,5 +1,7 @@
 // The plain side of a call: the plain implementation's call of that kind. It names nothing of the store's own crates, so that it can be proved beside
 // them.
+#![tactic(auto)]
+
 use compare_asked::call::Asked;
 use compare_draws::store::Shape;
 

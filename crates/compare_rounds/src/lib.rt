@@ -1,5 +1,7 @@
 // The calls that are compared, in their order. Nothing here makes one: each is a question that the program asks of both sides, and what the store's
 // side came to makes the next.
+#![tactic(auto)]
+
 pub mod answer;
 mod changes;
 mod images;

@@ -1,3 +1,5 @@
+#![tactic(auto)]
+
 // cut: reads e, B and the keys, one a line, from standard input; prints the counts and one line per segment, or the refusal.
 // All that it decides is in the library `cut_program`. The first 7,725 bytes of the input decide, so a buffer of as many and one loses nothing.
 fn main() {

@@ -1,4 +1,6 @@
 // The program's library on the inputs that are easy to get wrong; what it puts out is compared with the file `stdout`.
+#![tactic(auto)]
+
 ghost use Rattle.std.specs.Prelude.{◌<◌, ◌≤◌};
 
 fn show(text: &[u8]) {

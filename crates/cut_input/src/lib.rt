@@ -1,4 +1,6 @@
 // The program's input: e, B, then the keys, one a line.
+#![tactic(auto)]
+
 ghost use Rattle.std.specs.Prelude.{◌≡◌, ◌≤◌, length};
 ghost use Rattle.lists.specs.Over.{over};
 ghost use Rattle.cut_input.specs.StartList.{keys_of, values_of, after_b, after_e, listed_of, given_after_e, given_of};

@@ -1,4 +1,6 @@
 // What the program prints: the counts and one line per segment, or the refusal.
+#![tactic(auto)]
+
 ghost use Rattle.std.specs.Prelude.{◌≡◌, ◌+◌, ◌*◌, ◌≤◌, [], ◌∷◌, length};
 ghost use Rattle.lists.specs.Over.{over};
 ghost use Rattle.cut_output.specs.Report.{Named, Cells, Report, field_of, closing_of, named_of, last_of, keys_segments, bound_buffer, counts_of, cells_of, report_of, refusal_of};

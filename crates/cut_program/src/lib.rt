@@ -1,4 +1,6 @@
 // The program `cut` as a function: from the bytes of its input to the bytes of its output.
+#![tactic(auto)]
+
 ghost use Rattle.std.specs.Prelude.{◌≡◌, ◌≤◌, length};
 ghost use Rattle.lists.specs.Over.{over};
 ghost use Rattle.cut_program.specs.Output.{Area, built_output, output_of};

@@ -1,4 +1,6 @@
 // The cut of a part of the key slice, read where it lies: how many segments it has, and their entries.
+#![tactic(auto)]
+
 ghost use Rattle.std.specs.Prelude.{◌≡◌, ◌++◌, ◌*◌, length, drop};
 ghost use Rattle.std.proofs.lemmas.List.Edits.{sets};
 ghost use Rattle.cone.specs.Rule.{segment_of, cut};

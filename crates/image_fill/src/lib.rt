@@ -1,4 +1,6 @@
 // The filling pass of reading, first edition: exactly the used cells are set. It runs after the judging pass, so it tests nothing.
+#![tactic(auto)]
+
 ghost use Rattle.std.specs.Prelude.{◌≡◌, ◌+◌, ◌*◌, [], ◌∷◌};
 ghost use Rattle.lists.specs.Over.{over, Space};
 ghost use Rattle.image_records.specs.Records.{many_at, record_at};

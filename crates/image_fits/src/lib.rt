@@ -1,4 +1,6 @@
 // What of a store fits the records of an image: the lowest entry that does not, else whether a key in a run does not.
+#![tactic(auto)]
+
 ghost use Rattle.std.specs.Prelude.{◌≡◌, [], ◌∷◌, ◌-◌};
 ghost use Rattle.scan.specs.Scan.{fails_of, none_of};
 ghost use Rattle.lists.specs.Over.{Space};

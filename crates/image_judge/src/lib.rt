@@ -1,4 +1,6 @@
 // The judging pass of reading: one walk over the bytes, of any edition. It writes nothing and reads no body but the head and held.
+#![tactic(auto)]
+
 ghost use Rattle.std.specs.Prelude.{◌≡◌, ◌+◌};
 ghost use Rattle.lists.specs.Over.{Space};
 ghost use Rattle.image_little.specs.Little.{get_at};

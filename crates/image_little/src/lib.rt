@@ -1,4 +1,6 @@
 // Numbers in bytes, lowest byte first, of any width up to 8: one function each way, with the width a number.
+#![tactic(auto)]
+
 ghost use Rattle.std.specs.Prelude.{◌≡◌, ◌+◌, ◌^◌, ◌<◌, ltb};
 ghost use Rattle.lists.specs.Over.{over, Space};
 ghost use Rattle.image_little.specs.Little.{Read, number_bytes, get_at};

@@ -1,5 +1,7 @@
 // The writing pass: the image of a store, first edition, over a slice of bytes. Each function writes the bytes that its promise names over the
 // slice from `at` on, and answers the place after them.
+#![tactic(auto)]
+
 ghost use Rattle.std.specs.Prelude.{◌≡◌, ◌+◌, length};
 ghost use Rattle.table.specs.Store.{store_of};
 ghost use Rattle.image_records.specs.Images.{image_bytes};

@@ -1,4 +1,6 @@
 // Reading an image into lent slices. Everything is decided, over the whole image, before a cell is written.
+#![tactic(auto)]
+
 ghost use Rattle.std.specs.Prelude.{◌≡◌, ◌<◌};
 ghost use Rattle.table.specs.Limits.{Counted};
 ghost use Rattle.image_read.specs.Loading.{keys_held, segments_held, roomed_of, load_of, keys_by, table_by, buffers_by};

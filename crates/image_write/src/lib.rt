@@ -1,4 +1,6 @@
 // Writing a store as an image. Everything is decided before a byte is written.
+#![tactic(auto)]
+
 ghost use Rattle.std.specs.Prelude.{◌≡◌, ◌+◌, ◌*◌, length};
 ghost use Rattle.table.specs.Store.{store_of};
 ghost use Rattle.table.specs.Limits.{Limits};

@@ -1,4 +1,6 @@
 // Insert: a key goes into the buffer of its segment, or the segment is merged and cut again. What it refuses it leaves as it was.
+#![tactic(auto)]
+
 ghost use Rattle.std.specs.Prelude.{◌≡◌};
 ghost use Rattle.table.specs.Store.{store_of};
 ghost use Rattle.insert_decide.specs.Decided.{decided_of};

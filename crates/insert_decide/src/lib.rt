@@ -1,4 +1,6 @@
 // Insert, what is decided before anything is written: the segment, what becomes of k in it, the later entries, the rooms.
+#![tactic(auto)]
+
 ghost use Rattle.std.specs.Prelude.{◌≡◌, Bool};
 ghost use Rattle.table.specs.Store.{store_of};
 ghost use Rattle.table.specs.Entries.{Row};

@@ -1,1 +1,3 @@
+#![tactic(auto)]
+
 // No code: what insert's answers mean, and the theorems about them.

@@ -1,4 +1,6 @@
 // Whether a merged order rises, and into how many segments it is cut: read off where the cells lie, before anything is written.
+#![tactic(auto)]
+
 ghost use Rattle.std.specs.Prelude.{◌≡◌, Bool};
 ghost use Rattle.lists.specs.Merge.{merge, insert_sorted};
 ghost use Rattle.insert_pieces.specs.Judged.{after_of, cutting_of, Judgeable, Begun};

@@ -1,5 +1,7 @@
 // What an insert writes: a key into a slot, or the merge of a segment, cut again. All that may be refused is decided before, and the
 // segment's entry is the one that was read then.
+#![tactic(auto)]
+
 ghost use Rattle.std.specs.Prelude.{◌≡◌, ◌+◌, ◌*◌, set};
 ghost use Rattle.terms.specs.Limits.{in_use_of};
 ghost use Rattle.table.specs.Store.{store_of};

@@ -1,4 +1,6 @@
 // The check: whether a store keeps every rule, and the lowest segment that breaks one.
+#![tactic(auto)]
+
 ghost use Rattle.std.specs.Prelude.{◌≡◌, Bool, ◌+◌, ◌≤◌, ltb, leb, eqb, length};
 ghost use Rattle.lists.specs.Tests.{pick, imp};
 ghost use Rattle.table.specs.Store.{store_of};

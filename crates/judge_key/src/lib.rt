@@ -1,4 +1,6 @@
 // The rules that are about one key of a segment's merged order.
+#![tactic(auto)]
+
 ghost use Rattle.std.specs.Prelude.{◌≡◌, Bool, ◌+◌, ltb, leb};
 ghost use Rattle.lists.specs.Tests.{pick, imp};
 ghost use Rattle.judge_key.specs.Key.{Placed, between_of, run_key_of, used_key_of};

@@ -1,4 +1,6 @@
 // The line of a segment: the guess for a key, and the window about the guess.
+#![tactic(auto)]
+
 ghost use Rattle.std.specs.Prelude.{◌≡◌, ◌+◌, ◌-◌, min, max};
 ghost use Rattle.line.specs.Line.{Lined, Reaching, guess_of, near_of, window_of, reach_of};
 

@@ -1,4 +1,6 @@
 // Point lookup: a public call that has no `requires`, and answers or refuses on every input.
+#![tactic(auto)]
+
 ghost use Rattle.std.specs.Prelude.{◌≡◌};
 ghost use Rattle.table.specs.Store.{store_of};
 ghost use Rattle.lookup.specs.Lookup.{Asked, buffered_of, searched_of, lookup_of};

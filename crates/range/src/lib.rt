@@ -1,4 +1,6 @@
 // Range: the keys from low to high, written to a slice. Everything is decided before anything is written, and nothing is copied out.
+#![tactic(auto)]
+
 ghost use Rattle.std.specs.Prelude.{◌≡◌, length};
 ghost use Rattle.table.specs.Store.{store_of};
 ghost use Rattle.table.specs.Limits.{Limits};

@@ -1,5 +1,7 @@
 // A stretch of segments: whether each is right and comes after the one before it, how many keys from low to high they have, and those keys
 // written to a slice.
+#![tactic(auto)]
+
 ghost use Rattle.std.specs.Prelude.{◌≡◌, Bool, [], ◌∷◌, ◌+◌, leb, length};
 ghost use Rattle.lists.specs.Tests.{both};
 ghost use Rattle.lists.specs.Merge.{merge};

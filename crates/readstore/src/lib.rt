@@ -1,5 +1,7 @@
 // The public calls for C and Rust: numbers and slices go in, and each answer comes back as eight numbers that the caller lends:
 // [0] the refusal's number, 0 if accepted; [1] its place; [2] a kind; [3].. values; unused ones 0.
+#![tactic(auto)]
+
 ghost use Rattle.std.specs.Prelude.{◌≡◌, length};
 ghost use Rattle.terms.specs.Limits.{sizes_of};
 ghost use Rattle.table.specs.Store.{store_of};

@@ -1,5 +1,7 @@
 // Numbers as C and Rust pass them: the four of a store, and each answer as the eight that the exports give: [0] the refusal's number, 0 if accepted; [1] its
 // place; [2] a kind; [3].. values; unused ones 0.
+#![tactic(auto)]
+
 ghost use Rattle.std.specs.Prelude.{◌≡◌};
 ghost use Rattle.terms.specs.Limits.{sizes_of};
 ghost use Rattle.readstore_numbers.specs.Numbers.{refusal_numbers, built_numbers, checked_numbers, looked_numbers, ranged_numbers, inserted_numbers, written_numbers, loaded_numbers};

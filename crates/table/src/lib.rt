@@ -1,4 +1,6 @@
 // A store as it is lent: its limits and rooms, an entry read off the table, and damage.
+#![tactic(auto)]
+
 ghost use Rattle.std.specs.Prelude.{◌≡◌, Bool, ◌<◌, min};
 ghost use Rattle.table.specs.Store.{store_of};
 ghost use Rattle.table.specs.Limits.{sized_of, counted_of, limited_of, key_room, segment_room};

@@ -1,4 +1,6 @@
 // The words of document 01: a key, a position, an entry, the limits, and the refusals.
+#![tactic(auto)]
+
 ghost use Rattle.std.specs.Prelude.{◌≡◌, Bool};
 ghost use Rattle.terms.specs.Limits.{in_use_of};
 ghost use Rattle.terms.specs.Keys.{is_key};

@@ -1,4 +1,6 @@
 // Decimal numbers as text: a line of digits read, and a number written out.
+#![tactic(auto)]
+
 ghost use Rattle.std.specs.Prelude.{◌≡◌, ◌+◌, ◌≤◌, length};
 ghost use Rattle.lists.specs.Over.{over};
 ghost use Rattle.text.specs.Lines.{symbol_of, line_at, Inside};
