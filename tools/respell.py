@@ -17,7 +17,7 @@ import sys
 
 ID = re.compile(r"[^\W\d][\w'′₀-₉]*(?:-[\w'′₀-₉]+)*")
 
-# Both spellings stand in one file: the definition takes the plain name, the lemma, field or local beside it another.
+# Both spellings stand in one file: the definition takes the plain name, the lemma, field or local beside it another. And a fact, in camel case.
 APART = {
     "all-of": "all_of_lem",
     "e-most": "e_limit",
@@ -35,9 +35,10 @@ APART = {
     "buffers-by": "buffers_by_lem",
     "keys-by": "keys_by_lem",
     "table-by": "table_by_lem",
+    "windowIn": "WindowIn",
 }
 
-# The same where the name had its plain spelling already, and where it is also the name of a tactic (first_of).
+# The same where the name had its plain spelling already. Below: a name that is also a tactic's (first_of), and two rulesets that are no types.
 PLACED = {
     "crates/scan/proofs/Eight.antt": {"none_of": "none_found"},
     "crates/theory_shown/proofs/Found.antt": {"run_in": "run_in_lem"},
@@ -45,7 +46,7 @@ PLACED = {
     "crates/theory_shown/proofs/Views.antt": {"first_of": "first_of_seg"},
     "crates/theory_kept/proofs/Kept.antt": {"first_of": "first_of_seg"},
 }
-EVERYWHERE = {"first_of": "first_passing"}
+EVERYWHERE = {"first_of": "first_passing", "Above_cases": "above_cases", "List_cases": "list_cases"}
 
 
 def listed():

@@ -168,4 +168,4 @@ module _ (room : ℕ) (text : List ℕ) {l : Line} where
 
 pub ruleset e_cases = (line_inside, e_end, e_bad, e_number, e_end_cells, e_bad_cells, e_number_cells)
 
-pub ruleset List_cases = (line_inside, list_end, list_bad, list_number, list_end_cells, list_bad_cells, list_number_cells)
+pub ruleset list_cases = (line_inside, list_end, list_bad, list_number, list_end_cells, list_bad_cells, list_number_cells)

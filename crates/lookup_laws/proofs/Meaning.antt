@@ -37,8 +37,8 @@ use Rattle.lookup_laws.specs.Answers.{Asked, Taken, Stands, Waits, Answers, in_r
 
 -- ---- segment i, once it is taken
 module _ (σ : Store) (k i : ℕ) where
-  abbrev window_in : ℕ → Type 0
-  window_in p = Within (window_of (in_use σ) (entry_in σ i) (key_of k)) p
+  abbrev WindowIn : ℕ → Type 0
+  WindowIn p = Within (window_of (in_use σ) (entry_in σ i) (key_of k)) p
 
   abbrev start : ℕ
   start = (window_of (in_use σ) (entry_in σ i) (key_of k)).from.0
@@ -51,7 +51,7 @@ module _ (σ : Store) (k i : ℕ) where
   stands p a b e = record { near = within_near (in_use σ) (entry_in σ i) (key_of k) p (record { from = a; below = omega arith }); is = e }
 
   module _ (p : ℕ) (w : Stands σ k i p) where
-    within : window_in p
+    within : WindowIn p
     within = near_within (in_use σ) (entry_in σ i) (key_of k) p w.near
 
     before_end : p < start + count
