@@ -46,7 +46,7 @@ PLACED = {
     "crates/theory_shown/proofs/Views.antt": {"first_of": "first_of_seg"},
     "crates/theory_kept/proofs/Kept.antt": {"first_of": "first_of_seg"},
 }
-EVERYWHERE = {"first_of": "first_passing", "Above_cases": "above_cases", "List_cases": "list_cases"}
+EVERYWHERE = {"first_of": "first_passing", "Above-cases": "above_cases", "List-cases": "list_cases"}
 
 
 def listed():
