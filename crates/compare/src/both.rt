@@ -1,64 +1,57 @@
-// A call made on both sides, compared and reported.
-use crate::lend::{lend_to_read, lend_to_write};
-use compare_asked::call::{Asked, Call, in_numbers, writes};
-use compare_asked::side::{Side, same};
-use compare_draws::store::Store;
-use compare_tally::report;
+// A call made on both sides, compared and reported. What is lent of a store's slices is by its shape, what is lent beside it by the call.
+use crate::exports::Exports;
+use compare_asked::call::{Call, Change, Query};
+use compare_asked::side::{Image, Outcome, Side};
+use compare_draws::store::{Store, front, front_mut};
+use compare_plain_side::Plain;
+use compare_tally::Tally;
+
+// What stands where a range is to be written.
+const UNWRITTEN: [u64; 512] = [7; 512];
 
 // A call that writes to the store, of a copy of it.
-fn written(plain: bool, c: Asked, x: Store, image: &[u8; 6600]) -> Side {
-    let shape = x.shape;
-    let mut keys = x.keys;
-    let mut table = x.table;
-    let mut slots = x.slots;
-    let answer = lend_to_write(plain, c, shape, &mut keys, &mut table, &mut slots, image);
-    let store = Store {
-        shape,
-        keys,
-        table,
-        slots,
-    };
-    let out = [7u64; 512];
-    Side { answer, store, out }
+fn written<S: Side>(change: Change, x: &Store, image: &Image) -> Outcome {
+    let mut store = *x;
+    let answer = S::write_to(change, store.lent_mut(), front(image, change.length()));
+    Outcome {
+        answer,
+        store,
+        out: UNWRITTEN,
+        image: *image,
+    }
 }
 
-// A call that only reads it.
-fn read(plain: bool, c: Asked, x: Store, image: &mut [u8; 6600]) -> Side {
-    let keys = x.keys;
-    let table = x.table;
-    let slots = x.slots;
-    let mut out = [7u64; 512];
-    let answer = lend_to_read(plain, c, x.shape, &keys, &table, &slots, &mut out, image);
-    Side {
+// A call that only reads it, and writes to a copy of the image.
+fn read<S: Side>(query: Query, x: &Store, image: &Image) -> Outcome {
+    let mut out = UNWRITTEN;
+    let mut image = *image;
+    let room = query.room();
+    let answer = S::read_from(
+        query,
+        x.lent(),
+        front_mut(&mut out, room),
+        front_mut(&mut image, room),
+    );
+    Outcome {
         answer,
-        store: x,
+        store: *x,
         out,
+        image,
     }
 }
 
 // The call on one side.
-fn on_side(plain: bool, c: Asked, x: Store, image: &mut [u8; 6600]) -> Side {
-    if writes(c) {
-        return written(plain, c, x, image);
+fn on<S: Side>(call: Call, x: &Store, image: &Image) -> Outcome {
+    match call {
+        Call::Change(change) => written::<S>(change, x, image),
+        Call::Query(query) => read::<S>(query, x, image),
     }
-    read(plain, c, x, image)
 }
 
-// The call on both; the plain side has a copy of the image. What the store's side came to.
-pub fn both(
-    round: u64,
-    call: Call,
-    x: Store,
-    image: &mut [u8; 6600],
-    tally: &mut [u64; 32],
-) -> Side {
-    let c = in_numbers(call);
-    let mut image2 = *image;
-    let a = on_side(false, c, x, image);
-    let p = on_side(true, c, x, &mut image2);
-    let cells = same(c, a, p, image, &image2);
-    let answer = a.answer;
-    let plain = p.answer;
-    report(tally, c.kind, round, answer, plain, cells);
+// The call on both. What the store's side came to.
+pub fn both(round: u64, call: Call, x: &Store, image: &Image, tally: &mut Tally) -> Outcome {
+    let a = on::<Exports>(call, x, image);
+    let p = on::<Plain>(call, x, image);
+    tally.report(call.into(), round, &a, &p);
     a
 }

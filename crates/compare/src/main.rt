@@ -7,16 +7,16 @@
 #![tactic(auto)]
 
 use both::both;
-use compare_draws::faults::hurt;
+use compare_draws::dice::Draw;
 use compare_draws::keys::draw_list;
 use compare_draws::small::draw_small;
 use compare_draws::store::Store;
-use compare_rounds::answer::after;
-use compare_rounds::pass::{Pass, cut, grow, wrong};
-use compare_rounds::question::{At, calls, next};
+use compare_rounds::pass::Pass;
+use compare_rounds::question::At;
+use compare_tally::Tally;
 
 mod both;
-mod lend;
+mod exports;
 
 // How many lists are built, and how many small stores drawn.
 const BUILT: u64 = 1600;
@@ -24,51 +24,40 @@ const BUILT: u64 = 1600;
 const SMALL: u64 = 15000;
 
 // Every call of a pass over a store, made on both sides. The store as it is afterwards.
-fn run(p: Pass, start: Store, tally: &mut [u64; 32]) -> Store {
-    let mut image = [170u8; 6600];
-    let mut at = At {
-        store: start,
-        kept: 0,
-    };
-    for i in 0..calls(p) {
-        let q = next(p, i, at, &mut image);
-        let call = q.call;
-        let then = q.then;
-        let a = both(p.name, call, q.of, &mut image, tally);
-        at = after(p.name, then, at, a);
+fn run(p: Pass, start: Store, tally: &mut Tally) -> Store {
+    let mut at = At::start(start);
+    for i in 0..p.calls() {
+        let q = p.next(i, &mut at);
+        let a = both(p.name, q.call, &q.of, &at.image, tally);
+        at.go_on(q.then, &a);
     }
     at.store
 }
 
 // A list cut; where it was, grown, and then three times gone wrong.
-fn built_round(round: u64, tally: &mut [u64; 32]) {
-    let mut x = run(cut(round), draw_list(round), tally);
+fn built_round(round: u64, tally: &mut Tally) {
+    let mut x = run(Pass::cut(round), draw_list(round), tally);
     if 0 < x.shape.s {
-        x = run(grow(round, 60, 12), x, tally);
+        x = run(Pass::grow(round, 60, 12), x, tally);
         for turn in 0..3 {
-            let p = wrong(round, turn);
-            x = run(p, hurt(p.name, 20000, x), tally);
+            let p = Pass::wrong(round, turn);
+            x = run(p, x.hurt(Draw::at(p.name, 20000)), tally);
         }
     }
 }
 
-// A round for each list.
-fn built_rounds(tally: &mut [u64; 32], count: u64) {
-    for round in 0..count {
-        built_round(round, tally);
-    }
-}
-
-// A round for each small store, whose numbers are all drawn, some of them as a sound store has them.
-fn small_rounds(tally: &mut [u64; 32], count: u64) {
-    for round in 0..count {
-        run(grow(round, 6, 4), draw_small(round), tally);
-    }
+// A small store, whose numbers are all drawn, some of them as a sound store has them.
+fn small_round(round: u64, tally: &mut Tally) {
+    run(Pass::grow(round, 6, 4), draw_small(round), tally);
 }
 
 fn main() {
-    let mut tally = [0u64; 32];
-    built_rounds(&mut tally, BUILT);
-    small_rounds(&mut tally, SMALL);
-    compare_tally::write_all(&tally);
+    let mut tally = Tally::default();
+    for round in 0..BUILT {
+        built_round(round, &mut tally);
+    }
+    for round in 0..SMALL {
+        small_round(round, &mut tally);
+    }
+    tally.write_all();
 }

@@ -1,62 +1,91 @@
 // What is asked of a store.
-ghost use Rattle.std.specs.Prelude.{◌≤◌};
+ghost use Rattle.std.specs.Prelude.{◌≡◌, ℕ};
+ghost use Rattle.compare_asked.specs.declared.call.Change.TheVariants.{ReadImage};
+ghost use Rattle.compare_asked.specs.declared.call.Query.TheVariants.{Range, WriteImage};
 
-// `room` is how much is lent to be written, `length` how much of an image is to be read.
-#[derive(Clone, Copy)]
-pub enum Call {
+// A call that writes to the store; `length` is how much of an image is to be read.
+#[derive(Clone, Copy, Debug, PartialEq, Eq)]
+pub enum Change {
     Build,
+    Insert(u64),
+    ReadImage { length: u64 },
+}
+
+// A call that changes no cell of the store; `room` is how much is lent to be written.
+#[derive(Clone, Copy, Debug, PartialEq, Eq)]
+pub enum Query {
     Check,
     Lookup(u64),
     Range { low: u64, high: u64, room: u64 },
-    Insert(u64),
-    Write { room: u64 },
-    Read { length: u64 },
+    WriteImage { room: u64 },
 }
 
-// The same in numbers, 0 where a call takes none: its kind, its key or lower end, its upper end, and how much is lent beside the store.
-#[derive(Clone, Copy)]
-pub struct Asked {
-    pub kind: usize,
-    pub key: u64,
-    pub high: u64,
-    pub room: u64,
+// Apart, since no more is lent writable than is written.
+#[derive(Clone, Copy, Debug, PartialEq, Eq)]
+pub enum Call {
+    Change(Change),
+    Query(Query),
 }
 
-// The numbers put together.
-fn ask(kind: usize, key: u64, high: u64, room: u64) -> Asked {
-    Asked {
-        kind,
-        key,
-        high,
-        room,
+// What the tally counts apart, in its order.
+#[derive(Clone, Copy, Debug, PartialEq, Eq)]
+pub enum Kind {
+    Build,
+    Check,
+    Lookup,
+    Range,
+    Insert,
+    ImageWriting,
+    ImageReading,
+}
+
+impl Change {
+    // How much of an image is lent.
+    pub fn length(self) -> u64
+        ensures { (n : ℕ) → self ≡ ReadImage n → result ≡ n }
+    {
+        match self {
+            Change::Build | Change::Insert(_) => 0,
+            Change::ReadImage { length } => length,
+        }
     }
 }
 
-// The kinds are numbered as the tally has them.
-pub fn in_numbers(c: Call) -> Asked {
-    match c {
-        Call::Build => ask(0, 0, 0, 0),
-        Call::Check => ask(1, 0, 0, 0),
-        Call::Lookup(key) => ask(2, key, 0, 0),
-        Call::Range { low, high, room } => ask(3, low, high, room),
-        Call::Insert(key) => ask(4, key, 0, 0),
-        Call::Write { room } => ask(5, 0, 0, room),
-        Call::Read { length } => ask(6, 0, 0, length),
+impl Query {
+    // How much is lent beside the store.
+    pub fn room(self) -> u64
+        ensures range { (low high n : ℕ) → self ≡ Range low high n → result ≡ n }
+        ensures image { (n : ℕ) → self ≡ WriteImage n → result ≡ n }
+    {
+        match self {
+            Query::Check | Query::Lookup(_) => 0,
+            Query::Range { room, .. } | Query::WriteImage { room } => room,
+        }
     }
 }
 
-// Whether the call writes to the store: it builds, inserts or reads an image.
-pub fn writes(c: Asked) -> bool {
-    c.kind == 0 || c.kind == 4 || c.kind == 6
+impl Kind {
+    pub const ALL: [Kind; 7] = [
+        Kind::Build,
+        Kind::Check,
+        Kind::Lookup,
+        Kind::Range,
+        Kind::Insert,
+        Kind::ImageWriting,
+        Kind::ImageReading,
+    ];
 }
 
-// n, or what there is if that is less.
-pub fn cap(n: u64, most: usize) -> usize
-    ensures { result ≤ most }
-{
-    let p = n as usize;
-    if p < most {
-        return p;
+impl From<Call> for Kind {
+    fn from(call: Call) -> Kind {
+        match call {
+            Call::Change(Change::Build) => Kind::Build,
+            Call::Query(Query::Check) => Kind::Check,
+            Call::Query(Query::Lookup(_)) => Kind::Lookup,
+            Call::Query(Query::Range { .. }) => Kind::Range,
+            Call::Change(Change::Insert(_)) => Kind::Insert,
+            Call::Query(Query::WriteImage { .. }) => Kind::ImageWriting,
+            Call::Change(Change::ReadImage { .. }) => Kind::ImageReading,
+        }
     }
-    most
 }

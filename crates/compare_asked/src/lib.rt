@@ -1,4 +1,4 @@
-// What is asked of a store, and what one side came to.
+// What is asked of a store, who is asked, and what a side came to.
 #![tactic(auto)]
 
 pub mod call;

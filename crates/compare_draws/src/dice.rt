@@ -1,5 +1,15 @@
-// Numbers that look random and are the same at every run: each is made of a round, a step and a count of faces.
-use std::num::wrapping_add_u64;
+// Numbers that look random and are the same at every run: each is made of a round, a step and a count of faces. What is drawn chooses among a few cases
+// by a `match` on the number: the cases have no name, and stand nowhere else.
+ghost use Rattle.std.specs.Prelude.{◌≡◌, ◌<◌};
+
+use compare_plain::cells::sum;
+
+// Where something is drawn: a round, and a step of it.
+#[derive(Clone, Copy, Debug, PartialEq, Eq)]
+pub struct Draw {
+    pub round: u64,
+    pub step: u64,
+}
 
 // The bits of x, mixed.
 fn stir(x: u64) -> u64 {
@@ -8,35 +18,51 @@ fn stir(x: u64) -> u64 {
     z ^ (z << 17)
 }
 
-// Below `faces`, 0 if there are none.
-pub fn dice(round: u64, step: u64, faces: u64) -> u64 {
-    if faces == 0 {
-        return 0;
+impl Draw {
+    pub fn at(round: u64, step: u64) -> Draw
+        ensures { (result.round ≡ round) × (result.step ≡ step) }
+    {
+        Draw { round, step }
     }
-    let x = stir(wrapping_add_u64(round, 11400714819323198485));
-    let y = stir(wrapping_add_u64(stir(x), step));
-    let z = stir(wrapping_add_u64(y, 13787848793156543929));
-    stir(wrapping_add_u64(z, x)) % faces
-}
 
-// A number at the edge of some limit, or any.
-pub fn wild(round: u64, step: u64) -> u64 {
-    let kind = dice(round, step, 16);
-    match kind {
-        0 => 0,
-        1 => 1,
-        2 => 17592186044415,
-        3 => 17592186044416,
-        4 => 281474976710655,
-        5 => 281474976710656,
-        6 => 65535,
-        7 => 65536,
-        8 => 18446744073709551615,
-        9 => 9223372036854775808,
-        10 => dice(round, step, 17592186044416),
-        11 => dice(round, step, 70),
-        12 => dice(round, step, 40000),
-        13 => dice(round, step, 9223372036854775807),
-        _ => dice(round, step, 300),
+    // So many steps later in the same round.
+    pub fn later(self, steps: u64) -> Draw
+        ensures { result.round ≡ self.round }
+    {
+        Draw::at(self.round, sum(self.step, steps))
+    }
+
+    // Below `faces`, 0 if there are none.
+    pub(crate) fn dice(self, faces: u64) -> u64
+        ensures { 0 < faces → result < faces }
+    {
+        if faces == 0 {
+            return 0;
+        }
+        let x = stir(self.round.wrapping_add(11400714819323198485));
+        let y = stir(stir(x).wrapping_add(self.step));
+        let z = stir(y.wrapping_add(13787848793156543929));
+        stir(z.wrapping_add(x)) % faces
+    }
+
+    // A number at the edge of some limit, or any.
+    pub(crate) fn wild(self) -> u64 {
+        match self.dice(16) {
+            0 => 0,
+            1 => 1,
+            2 => 17592186044415,
+            3 => 17592186044416,
+            4 => 281474976710655,
+            5 => 281474976710656,
+            6 => 65535,
+            7 => 65536,
+            8 => u64::MAX,
+            9 => 9223372036854775808,
+            10 => self.dice(17592186044416),
+            11 => self.dice(70),
+            12 => self.dice(40000),
+            13 => self.dice(9223372036854775807),
+            _ => self.dice(300),
+        }
     }
 }

@@ -1,15 +1,13 @@
--- The one product of this crate fits a word.
+-- What a cell of numbers reads as.
 -- Assumes nothing.
-use Prim.Native.Nat.{ℕ, ◌≤◌, ◌<◌, ◌*◌}
-use native.Mathlib.Nat.{lt_of_le_of_lt, mul-le-mul}
-use native.Mathlib.Omega.{arith}
-use mir.Syntax.{w64}
-use mir.Val.{Fits}
-use lib.Dec.{lit<}
+use Rattle.std.proofs.Common.{◌≡◌, ℕ, List, ◌∙◌}
+use Rattle.std.specs.Prelude.{Option, None, Some, slice_get, slice_index}
+use Rattle.std.specs.Option.{UnwrapsOrElse, unwrap_or}
+use Rattle.std.proofs.lemmas.Option.{unwrap_or-slice_get}
 
-pub product_fits : {a b : ℕ} → a < 281474976710656 → b < 65536 → Fits w64 (a * b)
-product_fits {a} {b} h g =
-    let f : a ≤ 281474976710655 = omega arith in
-    let l : b ≤ 65535 = omega arith in record { fits = lt_of_le_of_lt (mul-le-mul f l) (lit< tt) }
+taken : (o : Option ℕ) (r : ℕ) → UnwrapsOrElse o (λ d. d ≡ 0) r → r ≡ unwrap_or o 0
+taken None r h = h
+taken (Some x) r h = h
 
-pub ruleset product_cases = product_fits
+pub cell : (xs : List ℕ) (i r : ℕ) → UnwrapsOrElse (slice_get xs i) (λ d. d ≡ 0) r → r ≡ slice_index xs i
+cell xs i r h = taken (slice_get xs i) r h ∙ unwrap_or-slice_get xs i 0

@@ -1,151 +1,86 @@
 // Cells and sums that cannot fail: a cell past a slice's end reads as 0 and is not written, and what no store can hold is a huge number.
 
-pub const NONE: u64 = 18446744073709551615;
+ghost use Rattle.std.specs.Prelude.{◌≡◌, slice_get, slice_range};
+ghost use Rattle.std.specs.Option.{UnwrapsOrElse};
+ghost use Rattle.compare_plain.specs.Cells.{sum_of, product_of};
 
-pub fn size(s: &[u64]) -> u64 {
-    s.len() as u64
+// What sum and product answer where no store holds so much.
+const NONE: u64 = u64::MAX;
+
+// A key is below 2^44.
+pub const KEYS: u64 = 1 << 44;
+
+pub fn at<T: Copy + Default>(s: &[T], i: u64) -> T
+    ensures { UnwrapsOrElse (slice_get s.now i) T.is_default result }
+{
+    s.get(i as usize).copied().unwrap_or_default()
 }
 
-pub fn at(s: &[u64], i: u64) -> u64 {
-    let p = i as usize;
-    if p < s.len() {
-        return s[p];
+pub fn put<T: Copy>(s: &mut [T], i: u64, x: T) {
+    if let Some(cell) = s.get_mut(i as usize) {
+        *cell = x;
     }
-    0
 }
 
-pub fn put(s: &mut [u64], i: u64, x: u64) {
-    let p = i as usize;
-    if p < s.len() {
-        s[p] = x;
-    }
-}
-
-pub fn bytes(s: &[u8]) -> u64 {
-    s.len() as u64
-}
-
-fn widened(x: u8) -> u64 {
-    x as u64
-}
-
-pub fn byte_at(s: &[u8], i: u64) -> u64 {
-    let p = i as usize;
-    if p < s.len() {
-        return widened(s[p]);
-    }
-    0
+// The cells from one place up to another, as far as the slice has them.
+pub fn part<T>(s: &[T], from: u64, past: u64) -> &[T]
+    ensures { result.now ≡ slice_range s.now from past }
+{
+    let past = s.len().min(past as usize);
+    s.get(from as usize..past).unwrap_or_default()
 }
 
 pub fn put_byte(s: &mut [u8], i: u64, x: u64) {
-    let p = i as usize;
-    let y = (x % 256) as u8;
-    if p < s.len() {
-        s[p] = y;
-    }
+    put(s, i, (x % 256) as u8);
 }
 
 // The sum of numbers below 2^62.
-pub fn sum(a: u64, b: u64) -> u64 {
-    if a < 4611686018427387904 {
-        if b < 4611686018427387904 {
-            return a + b;
-        }
+pub fn sum(a: u64, b: u64) -> u64
+    ensures { result ≡ sum_of a b }
+{
+    if a < 1 << 62 && b < 1 << 62 {
+        a + b
+    } else {
+        NONE
     }
-    NONE
-}
-
-// What a is above b, 0 if it is not.
-pub fn above(a: u64, b: u64) -> u64 {
-    if b < a {
-        return a - b;
-    }
-    0
-}
-
-// How far a and b are apart.
-pub fn apart(a: u64, b: u64) -> u64 {
-    if b < a {
-        return a - b;
-    }
-    above(b, a)
 }
 
 // The product of a number below 2^48 and one below 2^16.
-pub fn product(a: u64, b: u64) -> u64 {
-    if a < 281474976710656 {
-        if b < 65536 {
-            return a * b;
-        }
+pub fn product(a: u64, b: u64) -> u64
+    ensures { result ≡ product_of a b }
+{
+    if a < 1 << 48 && b < 1 << 16 {
+        a * b
+    } else {
+        NONE
     }
-    NONE
-}
-
-pub fn least(a: u64, b: u64) -> u64 {
-    if a < b {
-        return a;
-    }
-    b
-}
-
-fn put_two(s: &mut [u64], i: u64, x: u64, y: u64) {
-    put(s, i, x);
-    put(s, sum(i, 1), y);
-}
-
-pub fn put_five(s: &mut [u64], i: u64, x: u64, y: u64, z: u64, u: u64, v: u64) {
-    put_two(s, i, x, y);
-    put_two(s, sum(i, 2), z, u);
-    put(s, sum(i, 4), v);
 }
 
 // m cells of one slice from its place `start` on, copied to another from its place `to` on.
-pub fn copy(from: &[u64], start: u64, m: u64, dst: &mut [u64], to: u64) {
-    for i in 0..m {
-        put(dst, sum(to, i), at(from, sum(start, i)));
-    }
-}
-
-// Whether the first m numbers are keys and strictly rising.
-pub fn rising(list: &[u64], m: u64) -> bool {
-    for i in 0..m {
-        if 17592186044416 <= at(list, i) {
-            return false;
-        }
-        if 0 < i {
-            if at(list, i) <= at(list, above(i, 1)) {
-                return false;
-            }
+pub fn copy<T: Copy + Default>(from: &[T], start: u64, m: u64, dst: &mut [T], to: u64) {
+    let rest = from.get(start as usize..).unwrap_or_default();
+    if let Some(cells) = dst.get_mut(to as usize..) {
+        for (j, cell) in cells.iter_mut().take(m as usize).enumerate() {
+            *cell = rest.get(j).copied().unwrap_or_default();
         }
     }
-    true
 }
 
-// Whether some number of list[from..to] is at least k.
-pub fn reaches(list: &[u64], from: u64, to: u64, k: u64) -> bool {
-    for i in from..to {
-        if k <= at(list, i) {
-            return true;
-        }
-    }
-    false
+pub fn put_five(s: &mut [u64], i: u64, x: u64, y: u64, z: u64, u: u64, v: u64) {
+    copy(&[x, y, z, u, v], 0, 5, s, i);
 }
 
-// How many of the first m numbers are below k.
-pub fn count_below(list: &[u64], m: u64, k: u64) -> u64 {
-    let mut count = 0;
-    for i in 0..m {
-        if at(list, i) < k {
-            count = sum(count, 1);
-        }
-    }
-    count
+// Whether the numbers are keys and strictly rising.
+pub fn rising(list: &[u64]) -> bool {
+    list.iter().all(|k| *k < KEYS) && list.windows(2).all(|w| w[0] < w[1])
 }
 
-pub fn refused(number: u64, place: u64) -> [u64; 8] {
-    [number, place, 0, 0, 0, 0, 0, 0]
+// Whether some number is at least k.
+pub fn reaches(list: &[u64], k: u64) -> bool {
+    list.iter().any(|x| k <= *x)
 }
 
-pub fn answer(kind: u64, x: u64, y: u64, z: u64, w: u64) -> [u64; 8] {
-    [0, 0, kind, x, y, z, w, 0]
+// How many numbers are below k.
+pub fn count_below(list: &[u64], k: u64) -> u64 {
+    list.iter().filter(|x| **x < k).count() as u64
 }

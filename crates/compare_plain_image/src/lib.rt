@@ -1,310 +1,244 @@
-// The stored form, from document 01 alone: written and read byte by byte.
+// The stored form, from document 01 alone: written and read record by record.
 #![tactic(auto)]
 
-use compare_plain::cells::{
-    NONE, answer, at, byte_at, bytes, product, put, put_byte, put_five, reaches, refused, sum,
-};
-use compare_plain::segment::{base, first, held, key_room, lent, limits, rise, run, segment_room};
+use compare_plain::cells::{at, copy, part, product, reaches, sum};
+use compare_plain::refusal::{Refusal, answer};
+use compare_plain::segment::{Entry, Lent, key_room, limits, put_entry, segment_room};
+
+// The kinds of a record.
+#[derive(Clone, Copy)]
+enum Kind {
+    Head = 1,
+    RunKey = 2,
+    Segment = 3,
+    Buffered = 4,
+    End = 9,
+}
+
+impl Kind {
+    // How many bytes each number of the body has.
+    fn widths(self) -> &'static [u64] {
+        match self {
+            Kind::Head => &[2, 2, 2, 2],
+            Kind::RunKey | Kind::Buffered => &[6],
+            Kind::Segment => &[6, 2, 2, 6, 1],
+            Kind::End => &[],
+        }
+    }
+
+    // How many bytes the record has.
+    fn length(self) -> u64 {
+        self.widths()
+            .iter()
+            .fold(1, |length, width| sum(length, *width))
+    }
+}
 
 // ---- writing
 
-// The lowest width bytes of x, little-endian, from the place `p` on.
-fn put_number(out: &mut [u8], p: u64, width: u64, x: u64) {
-    let mut rest = x;
-    for i in 0..width {
-        put_byte(out, sum(p, i), rest);
-        rest = rest / 256;
+// What is written of an image: its bytes up to `length`, which may be past their end.
+#[derive(Drop)]
+struct Image<'a> {
+    bytes: &'a mut [u8],
+    length: u64,
+}
+
+impl<'a> Image<'a> {
+    // The lowest `width` bytes of x, little-endian.
+    fn number(&mut self, width: u64, x: u64) {
+        copy(&x.to_le_bytes(), 0, width, self.bytes, self.length);
+        self.length = sum(self.length, width);
+    }
+
+    fn record(&mut self, kind: Kind, numbers: &[u64]) {
+        self.number(1, kind as u64);
+        for (width, x) in kind.widths().iter().zip(numbers) {
+            self.number(*width, *x);
+        }
+    }
+
+    fn keys(&mut self, kind: Kind, keys: &[u64]) {
+        for k in keys {
+            self.record(kind, &[*k]);
+        }
     }
 }
 
-// A record of one number.
-fn put_record(out: &mut [u8], p: u64, kind: u64, width: u64, x: u64) {
-    put_byte(out, p, kind);
-    put_number(out, sum(p, 1), width, x);
-}
-
-fn put_two(out: &mut [u8], p: u64, x: u64, y: u64) {
-    put_number(out, p, 2, x);
-    put_number(out, sum(p, 2), 2, y);
-}
-
-fn put_head(out: &mut [u8], e: u64, b: u64, n: u64, s: u64) {
-    put_byte(out, 0, 1);
-    put_two(out, 1, e, b);
-    put_two(out, 5, n, s);
-}
-
-// `count` records of a key from p on, of the cells from c on.
-fn put_keys(out: &mut [u8], p: u64, kind: u64, cells: &[u64], c: u64, count: u64) {
-    for j in 0..count {
-        put_record(out, sum(p, product(j, 7)), kind, 6, at(cells, sum(c, j)));
+// The image of a store whose fields fit, as far as `out` goes. Its whole length. A segment goes by its number, since its entry and its slots lie in two
+// slices.
+fn put_all(x: Lent, out: &mut [u8]) -> u64 {
+    let mut image = Image {
+        bytes: out,
+        length: 0,
+    };
+    image.record(Kind::Head, &[x.e, x.b, x.n, x.s]);
+    image.keys(Kind::RunKey, part(x.keys, 0, x.n));
+    for i in 0..x.s {
+        let y = x.entry(i);
+        image.record(Kind::Segment, &[y.first, y.base, y.rise, y.run, y.held]);
+        image.keys(Kind::Buffered, x.used(i));
     }
-}
-
-fn put_line(out: &mut [u8], p: u64, table: &[u64], i: u64) {
-    put_two(out, p, base(table, i), rise(table, i));
-    put_number(out, sum(p, 4), 6, run(table, i));
-}
-
-fn put_segment(out: &mut [u8], p: u64, table: &[u64], i: u64) {
-    put_record(out, p, 3, 6, first(table, i));
-    put_line(out, sum(p, 7), table, i);
-    put_byte(out, sum(p, 17), held(table, i));
-}
-
-// The bytes of segment i and its used slots.
-fn segment_bytes(table: &[u64], i: u64) -> u64 {
-    sum(18, product(held(table, i), 7))
-}
-
-fn put_segments(out: &mut [u8], from: u64, b: u64, s: u64, table: &[u64], buffers: &[u64]) {
-    let mut p = from;
-    for i in 0..s {
-        put_segment(out, p, table, i);
-        put_keys(out, sum(p, 18), 4, buffers, product(i, b), held(table, i));
-        p = sum(p, segment_bytes(table, i));
-    }
-    put_byte(out, p, 9);
-}
-
-// How many bytes the image has.
-fn image_bytes(n: u64, s: u64, table: &[u64]) -> u64 {
-    let mut p = sum(9, product(n, 7));
-    for i in 0..s {
-        p = sum(p, segment_bytes(table, i));
-    }
-    sum(p, 1)
+    image.record(Kind::End, &[]);
+    image.length
 }
 
 // The least number that needs over 6 bytes.
-const WIDE: u64 = 281474976710656;
+const WIDE: u64 = 1 << 48;
 
-fn wide_field(b: u64, table: &[u64], i: u64) -> bool {
-    if b <= held(table, i) {
-        return true;
-    }
-    if WIDE <= first(table, i) {
-        return true;
-    }
-    if 65536 <= base(table, i) {
-        return true;
-    }
-    if 65536 <= rise(table, i) {
-        return true;
-    }
-    WIDE <= run(table, i)
+// Whether something of segment i does not fit.
+fn wide(x: Lent, i: u64) -> bool {
+    let y = x.entry(i);
+    x.b <= y.held
+        || WIDE <= y.first
+        || 65536 <= y.base
+        || 65536 <= y.rise
+        || WIDE <= y.run
+        || reaches(x.used(i), WIDE)
 }
 
-// The lowest entry that does not fit, NONE if all do.
-fn lowest_wide(b: u64, s: u64, table: &[u64], buffers: &[u64]) -> u64 {
-    for i in 0..s {
-        if wide_field(b, table, i) {
-            return i;
-        }
-        let from = product(i, b);
-        if reaches(buffers, from, sum(from, held(table, i)), WIDE) {
-            return i;
-        }
+pub fn write(x: Lent, out: &mut [u8]) -> [u64; 8] {
+    if !x.fits() {
+        return Refusal::Limits.at(0);
     }
-    NONE
-}
-
-fn written(
-    e: u64,
-    b: u64,
-    n: u64,
-    s: u64,
-    keys: &[u64],
-    table: &[u64],
-    buffers: &[u64],
-    out: &mut [u8],
-) -> [u64; 8] {
-    let length = image_bytes(n, s, table);
-    if bytes(out) < length {
-        return refused(8, 0);
+    if let Some(i) = (0..x.s).find(|i| wide(x, *i)) {
+        return Refusal::Wrong.at(i);
     }
-    put_head(out, e, b, n, s);
-    put_keys(out, 9, 2, keys, 0, n);
-    put_segments(out, sum(9, product(n, 7)), b, s, table, buffers);
+    if reaches(part(x.keys, 0, x.n), WIDE) {
+        return Refusal::Wrong.at(x.s);
+    }
+    let length = put_all(x, &mut []);
+    if (out.len() as u64) < length {
+        return Refusal::OutRoom.at(0);
+    }
+    put_all(x, out);
     answer(0, length, 0, 0, 0)
-}
-
-pub fn write(
-    e: u64,
-    b: u64,
-    n: u64,
-    s: u64,
-    keys: &[u64],
-    table: &[u64],
-    buffers: &[u64],
-    out: &mut [u8],
-) -> [u64; 8] {
-    if lent(e, b, n, s, keys, table, buffers) {
-        let i = lowest_wide(b, s, table, buffers);
-        if i < NONE {
-            return refused(9, i);
-        }
-        if reaches(keys, 0, n, WIDE) {
-            return refused(9, s);
-        }
-        return written(e, b, n, s, keys, table, buffers, out);
-    }
-    refused(1, 0)
 }
 
 // ---- reading
 
-// The number of width bytes from p on, at most 6 of them.
+// The number of width bytes from p on, at most 8 of them.
 fn number(image: &[u8], p: u64, width: u64) -> u64 {
-    let mut x = 0;
-    let mut scale = 1;
-    for i in 0..width {
-        x = sum(x, product(scale, byte_at(image, sum(p, i))));
-        scale = product(scale, 256);
-    }
-    x
+    let mut bytes = [0u8; 8];
+    copy(image, p, width, &mut bytes, 0);
+    u64::from_le_bytes(bytes)
 }
 
-// Whether a record of this kind and length starts at p and is not cut short.
-fn stands(image: &[u8], p: u64, kind: u64, length: u64) -> bool {
-    if bytes(image) < sum(p, length) {
-        return false;
+// The first N numbers of the record of this kind at p.
+fn numbers<const N: usize>(image: &[u8], p: u64, kind: Kind) -> [u64; N] {
+    let mut found = [0u64; N];
+    let mut place = sum(p, 1);
+    for (x, width) in found.iter_mut().zip(kind.widths()) {
+        *x = number(image, place, *width);
+        place = sum(place, *width);
     }
-    byte_at(image, p) == kind
+    found
 }
 
-// The place of the first of `count` records of a key that is wrong, NONE if none is.
-fn wrong_key(image: &[u8], from: u64, kind: u64, count: u64) -> u64 {
-    for j in 0..count {
-        let p = sum(from, product(j, 7));
-        if !stands(image, p, kind, 7) {
-            return p;
+// The place after the record of this kind that should start at p, or p if none does or it is cut short.
+fn after(image: &[u8], p: u64, kind: Kind) -> Result<u64, u64> {
+    let past = sum(p, kind.length());
+    if past <= image.len() as u64 && at(image, p) == kind as u8 {
+        Ok(past)
+    } else {
+        Err(p)
+    }
+}
+
+// The place after `count` records of a key from p on, or that of the first which is wrong.
+fn after_keys(image: &[u8], p: u64, kind: Kind, count: u64) -> Result<u64, u64> {
+    let mut next = p;
+    for _ in 0..count {
+        next = after(image, next, kind)?;
+    }
+    Ok(next)
+}
+
+// The entry of the segment that starts at p.
+fn entry(image: &[u8], p: u64) -> Entry {
+    let [first, base, rise, run, held] = numbers::<5>(image, p, Kind::Segment);
+    Entry {
+        first,
+        base,
+        rise,
+        run,
+        held,
+    }
+}
+
+// The place after the segment that should start at p, or that of what is wrong with it.
+fn after_segment(image: &[u8], p: u64, b: u64) -> Result<u64, u64> {
+    let slots = after(image, p, Kind::Segment)?;
+    let held = entry(image, p).held;
+    if b <= held {
+        return Err(p);
+    }
+    after_keys(image, slots, Kind::Buffered, held)
+}
+
+// The place of what is wrong behind the head, which ends at `from`.
+fn judged(image: &[u8], from: u64, b: u64, n: u64, s: u64) -> Result<(), u64> {
+    let mut p = after_keys(image, from, Kind::RunKey, n)?;
+    for _ in 0..s {
+        p = after_segment(image, p, b)?;
+    }
+    let end = after(image, p, Kind::End)?;
+    if end < image.len() as u64 {
+        Err(end)
+    } else {
+        Ok(())
+    }
+}
+
+// The keys of `count` records from p on, to cells from c on. The place after the records.
+fn get_keys(image: &[u8], p: u64, kind: Kind, count: u64, cells: &mut [u64], c: u64) -> u64 {
+    let mut place = p;
+    if let Some(rest) = cells.get_mut(c as usize..) {
+        for cell in rest.iter_mut().take(count as usize) {
+            [*cell] = numbers::<1>(image, place, kind);
+            place = sum(place, kind.length());
         }
     }
-    NONE
+    place
 }
 
-// The place of what is wrong with the segment that should start at p, NONE if nothing is.
-fn wrong_segment(image: &[u8], p: u64, b: u64) -> u64 {
-    if stands(image, p, 3, 18) {
-        let used = number(image, sum(p, 17), 1);
-        if b <= used {
-            return p;
-        }
-        return wrong_key(image, sum(p, 18), 4, used);
-    }
-    p
-}
-
-// The place after the segment that starts at p.
-fn after_segment(image: &[u8], p: u64) -> u64 {
-    sum(p, sum(18, product(number(image, sum(p, 17), 1), 7)))
-}
-
-// The place of what is wrong with the end, which should stand at p and be the last byte.
-fn wrong_end(image: &[u8], p: u64) -> u64 {
-    if stands(image, p, 9, 1) {
-        if sum(p, 1) < bytes(image) {
-            return sum(p, 1);
-        }
-        return NONE;
-    }
-    p
-}
-
-fn wrong_rest(image: &[u8], from: u64, b: u64, s: u64) -> u64 {
-    let mut p = from;
-    for i in 0..s {
-        let wrong = wrong_segment(image, p, b);
-        if wrong < NONE {
-            return wrong;
-        }
-        p = after_segment(image, p);
-    }
-    wrong_end(image, p)
-}
-
-fn wrong_record(image: &[u8], b: u64, n: u64, s: u64) -> u64 {
-    let wrong = wrong_key(image, 9, 2, n);
-    if wrong < NONE {
-        return wrong;
-    }
-    wrong_rest(image, sum(9, product(n, 7)), b, s)
-}
-
-// `count` keys of records from p on, to cells from c on.
-fn get_keys(image: &[u8], p: u64, count: u64, cells: &mut [u64], c: u64) {
-    for j in 0..count {
-        put(
-            cells,
-            sum(c, j),
-            number(image, sum(sum(p, product(j, 7)), 1), 6),
-        );
-    }
-}
-
-fn get_entry(image: &[u8], p: u64, table: &mut [u64], i: u64) {
-    put_five(
-        table,
-        product(i, 5),
-        number(image, sum(p, 1), 6),
-        number(image, sum(p, 7), 2),
-        number(image, sum(p, 9), 2),
-        number(image, sum(p, 11), 6),
-        number(image, sum(p, 17), 1),
-    );
-}
-
+// The segments' entries and their used slots, which go by the segment's number into two slices.
 fn get_segments(image: &[u8], from: u64, b: u64, s: u64, table: &mut [u64], buffers: &mut [u64]) {
     let mut p = from;
     for i in 0..s {
-        get_entry(image, p, table, i);
-        get_keys(
-            image,
-            sum(p, 18),
-            number(image, sum(p, 17), 1),
-            buffers,
-            product(i, b),
-        );
-        p = after_segment(image, p);
+        let x = entry(image, p);
+        put_entry(table, i, x);
+        let slots = sum(p, Kind::Segment.length());
+        p = get_keys(image, slots, Kind::Buffered, x.held, buffers, product(i, b));
     }
 }
 
-fn filled(
+// The image judged and then read. What it holds, or a refusal.
+fn read_all(
     image: &[u8],
-    e: u64,
-    b: u64,
-    n: u64,
-    s: u64,
     keys: &mut [u64],
     table: &mut [u64],
     buffers: &mut [u64],
-) -> [u64; 8] {
-    let wrong = wrong_record(image, b, n, s);
-    if wrong < NONE {
-        return refused(10, wrong);
+) -> Result<[u64; 8], [u64; 8]> {
+    let from = after(image, 0, Kind::Head).map_err(|p| Refusal::Malformed.at(p))?;
+    let [e, b, n, s] = numbers::<4>(image, 0, Kind::Head);
+    if !limits(e, b, n, s) {
+        return Err(Refusal::Limits.at(0));
     }
+    judged(image, from, b, n, s).map_err(|p| Refusal::Malformed.at(p))?;
     if key_room(keys) < n {
-        return refused(6, 0);
+        return Err(Refusal::KeyRoom.at(0));
     }
     if segment_room(b, table, buffers) < s {
-        return refused(7, 0);
+        return Err(Refusal::SegmentRoom.at(0));
     }
-    get_keys(image, 9, n, keys, 0);
-    get_segments(image, sum(9, product(n, 7)), b, s, table, buffers);
-    answer(0, e, b, n, s)
+    let first = get_keys(image, from, Kind::RunKey, n, keys, 0);
+    get_segments(image, first, b, s, table, buffers);
+    Ok(answer(0, e, b, n, s))
 }
 
+// What is lent comes one by one, as the C interface lends it.
 pub fn read(image: &[u8], keys: &mut [u64], table: &mut [u64], buffers: &mut [u64]) -> [u64; 8] {
-    if stands(image, 0, 1, 9) {
-        let e = number(image, 1, 2);
-        let b = number(image, 3, 2);
-        let n = number(image, 5, 2);
-        let s = number(image, 7, 2);
-        if limits(e, b, n, s) {
-            return filled(image, e, b, n, s, keys, table, buffers);
-        }
-        return refused(1, 0);
+    match read_all(image, keys, table, buffers) {
+        Ok(answered) | Err(answered) => answered,
     }
-    refused(10, 0)
 }

@@ -1,109 +1,64 @@
 // Insert, from document 01 alone: what it answers is judged first, then made anew and written.
 #![tactic(auto)]
 
-use compare_plain::cells::{NONE, above, answer, copy, count_below, product, refused, rising, sum};
-use compare_plain::segment::{base, choose, damaged, held, key_room, lent, segment_room};
-use compare_plain_build::cut;
-use compare_plain_moves::{buffered, joined, merged};
+use compare_plain::cells::{count_below, rising, sum};
+use compare_plain::refusal::{Refusal, answer};
+use compare_plain::segment::{Lent, key_room, segment_room};
+use compare_plain_build::{ENTRIES, cut};
+use compare_plain_moves::{Store, joined};
 use compare_plain_reads::looking::finds;
+use compare_plain_reads::merge::List;
+
+// What becomes of a key in segment i: it goes to a slot, or the segment is merged and cut into t.
+#[derive(Clone, Copy)]
+enum Made {
+    Seated { i: u64, slot: u64 },
+    Cut { i: u64, t: u64 },
+}
 
 // The lowest entry after i with a base above n or held not below B.
-fn later_fault(b: u64, n: u64, s: u64, table: &[u64], i: u64) -> u64 {
-    let next = sum(i, 1);
-    for j in next..s {
-        if n < base(table, j) {
-            return j;
-        }
-        if b <= held(table, j) {
-            return j;
-        }
-    }
-    NONE
+fn later_fault(x: Lent, i: u64) -> Option<u64> {
+    (sum(i, 1)..x.s).find(|j| x.n < x.entry(*j).base || x.b <= x.entry(*j).held)
 }
 
-// What a merge of segment i with k answers.
-fn judged_merge(
-    e: u64,
-    b: u64,
-    n: u64,
-    s: u64,
-    keys: &[u64],
-    table: &[u64],
-    buffers: &[u64],
-    i: u64,
-    k: u64,
-) -> [u64; 8] {
-    let mut list = [0u64; 1024];
-    let mut entries = [0u64; 1700];
-    let m = joined(b, n, s, keys, table, buffers, i, k, &mut list);
-    if !rising(&list, m) {
-        return refused(9, i);
+// What a merge of segment i with k makes.
+fn judged_merge(x: Lent, i: u64, k: u64) -> Result<Made, [u64; 8]> {
+    let mut list = List::new();
+    let mut entries = [0u64; ENTRIES];
+    if joined(x, i, k, &mut list).is_none() || !rising(list.as_slice()) {
+        return Err(Refusal::Wrong.at(i));
     }
-    let j = later_fault(b, n, s, table, i);
-    if j < NONE {
-        return refused(9, j);
+    if let Some(j) = later_fault(x, i) {
+        return Err(Refusal::Wrong.at(j));
     }
-    if key_room(keys) < sum(n, b) {
-        return refused(6, 0);
+    if key_room(x.keys) < sum(x.n, x.b) {
+        return Err(Refusal::KeyRoom.at(0));
     }
-    let t = cut(e, &list, m, base(table, i), &mut entries);
-    if segment_room(b, table, buffers) < sum(s, above(t, 1)) {
-        return refused(7, 0);
+    let t = cut(x.e, list.as_slice(), x.entry(i).base, &mut entries);
+    if segment_room(x.b, x.table, x.buffers) < sum(x.s, t.saturating_sub(1)) {
+        return Err(Refusal::SegmentRoom.at(0));
     }
-    answer(2, i, t, sum(n, b), sum(s, above(t, 1)))
+    Ok(Made::Cut { i, t })
 }
 
-// What segment i, whose entry is not damaged, answers.
-fn judged_segment(
-    e: u64,
-    b: u64,
-    n: u64,
-    s: u64,
-    keys: &[u64],
-    table: &[u64],
-    buffers: &[u64],
-    i: u64,
-    k: u64,
-) -> [u64; 8] {
-    let mut list = [0u64; 80];
-    let used = held(table, i);
-    copy(buffers, product(i, b), used, &mut list, 0);
-    if !rising(&list, used) {
-        return refused(9, i);
+// What insert makes.
+fn judged(x: Lent, k: u64) -> Result<Made, [u64; 8]> {
+    let i = x.chosen(k)?;
+    let used = x.used(i);
+    if !rising(used) {
+        return Err(Refusal::Wrong.at(i));
     }
-    if finds(e, b, n, s, keys, table, buffers, k) {
-        return refused(5, 0);
+    if finds(x, k) {
+        return Err(Refusal::Held.at(0));
     }
-    if sum(used, 1) < b {
-        return answer(1, i, count_below(&list, used, k), 0, 0);
+    if sum(used.len() as u64, 1) < x.b {
+        let slot = count_below(used, k);
+        return Ok(Made::Seated { i, slot });
     }
-    judged_merge(e, b, n, s, keys, table, buffers, i, k)
+    judged_merge(x, i, k)
 }
 
-// What insert answers.
-fn judged(
-    e: u64,
-    b: u64,
-    n: u64,
-    s: u64,
-    keys: &[u64],
-    table: &[u64],
-    buffers: &[u64],
-    k: u64,
-) -> [u64; 8] {
-    if !lent(e, b, n, s, keys, table, buffers) {
-        return refused(1, 0);
-    }
-    if 17592186044416 <= k {
-        return refused(2, 0);
-    }
-    let i = choose(s, table, k);
-    if damaged(b, n, s, table, i) {
-        return refused(9, i);
-    }
-    judged_segment(e, b, n, s, keys, table, buffers, i, k)
-}
-
+// What is lent comes one by one, as the C interface lends it.
 pub fn insert(
     e: u64,
     b: u64,
@@ -114,14 +69,24 @@ pub fn insert(
     buffers: &mut [u64],
     k: u64,
 ) -> [u64; 8] {
-    let a = judged(e, b, n, s, keys, table, buffers, k);
-    if 0 < a[0] {
-        return a;
+    let mut x = Store {
+        e,
+        b,
+        n,
+        s,
+        keys,
+        table,
+        buffers,
+    };
+    match judged(x.lent(), k) {
+        Err(refused) => refused,
+        Ok(Made::Seated { i, slot }) => {
+            x.buffered(i, k);
+            answer(1, i, slot, 0, 0)
+        }
+        Ok(Made::Cut { i, t }) => {
+            x.merged(i, k);
+            answer(2, i, t, sum(n, b), sum(s, t.saturating_sub(1)))
+        }
     }
-    if a[2] == 1 {
-        buffered(b, table, buffers, a[3], k);
-        return a;
-    }
-    merged(e, b, n, s, keys, table, buffers, a[3], k);
-    a
 }

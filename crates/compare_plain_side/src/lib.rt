@@ -2,43 +2,48 @@
 // them.
 #![tactic(auto)]
 
-use compare_asked::call::Asked;
-use compare_draws::store::Shape;
+use compare_asked::call::{Change, Query};
+use compare_asked::side::Side;
+use compare_draws::store::{Lent, LentMut, Shape};
+use compare_plain::segment;
+use compare_plain_image as images;
+use compare_plain_reads::{looking, merge};
 
-// A call that writes to the store, of slices as they are lent.
-pub fn write_to(
-    c: Asked,
-    x: Shape,
-    keys: &mut [u64],
-    table: &mut [u64],
-    slots: &mut [u64],
-    image: &[u8],
-) -> [u64; 8] {
-    let kind = c.kind;
-    match kind {
-        0 => compare_plain_build::build(x.e, x.b, x.n, keys, table, slots),
-        4 => compare_plain_insert::insert(x.e, x.b, x.n, x.s, keys, table, slots, c.key),
-        _ => compare_plain_image::read(image, keys, table, slots),
+pub struct Plain;
+
+impl Side for Plain {
+    fn write_to(change: Change, x: LentMut<'_>, image: &[u8]) -> [u64; 8] {
+        let LentMut {
+            shape: Shape { e, b, n, s, .. },
+            keys,
+            table,
+            slots,
+        } = x;
+        match change {
+            Change::Build => compare_plain_build::build(e, b, n, keys, table, slots),
+            Change::Insert(key) => {
+                compare_plain_insert::insert(e, b, n, s, keys, table, slots, key)
+            }
+            Change::ReadImage { .. } => images::read(image, keys, table, slots),
+        }
     }
-}
 
-// A call that changes no cell of the store, of slices as they are lent.
-pub fn read_from(
-    c: Asked,
-    x: Shape,
-    keys: &[u64],
-    table: &[u64],
-    slots: &[u64],
-    out: &mut [u64],
-    image: &mut [u8],
-) -> [u64; 8] {
-    let kind = c.kind;
-    match kind {
-        1 => compare_plain_reads::merge::check(x.e, x.b, x.n, x.s, keys, table, slots),
-        2 => compare_plain_reads::looking::lookup(x.e, x.b, x.n, x.s, keys, table, slots, c.key),
-        3 => compare_plain_reads::merge::range(
-            x.e, x.b, x.n, x.s, keys, table, slots, c.key, c.high, out,
-        ),
-        _ => compare_plain_image::write(x.e, x.b, x.n, x.s, keys, table, slots, image),
+    fn read_from(query: Query, x: Lent<'_>, out: &mut [u64], image: &mut [u8]) -> [u64; 8] {
+        let Shape { e, b, n, s, .. } = x.shape;
+        let lent = segment::Lent {
+            e,
+            b,
+            n,
+            s,
+            keys: x.keys,
+            table: x.table,
+            buffers: x.slots,
+        };
+        match query {
+            Query::Check => merge::check(lent),
+            Query::Lookup(key) => looking::lookup(lent, key),
+            Query::Range { low, high, .. } => merge::range(lent, low, high, out),
+            Query::WriteImage { .. } => images::write(lent, image),
+        }
     }
 }

@@ -1,41 +1,34 @@
 // What comes of an answer.
 use crate::question::{At, Then};
-use compare_asked::side::Side;
-use compare_draws::faults::hurt_part;
-use compare_draws::store::{Store, with_counts};
-use compare_plain::cells::sum;
+use compare_asked::side::Outcome;
+use compare_draws::store::{Part, Store};
 
-// The store after an insert.
-fn grown(x: Store, a: Side) -> Store {
-    if a.answer[0] == 0 {
-        if a.answer[2] == 2 {
-            return with_counts(a.store, a.answer[5], a.answer[6]);
+impl At {
+    // The store after an insert: as it was, where that was refused; with other counts, where it came to a merge.
+    fn grown(&self, a: &Outcome) -> Store {
+        match a.answer {
+            [0, _, 2, _, _, n, s, _] => a.store.with_counts(n, s),
+            [0, ..] => a.store,
+            _ => self.store,
         }
-        return a.store;
     }
-    x
-}
 
-// Where the pass has come to.
-pub fn after(name: u64, then: Then, at: At, a: Side) -> At {
-    let x = at.store;
-    match then {
-        Then::Nothing => at,
-        Then::Keep => At {
-            store: x,
-            kept: a.answer[3],
-        },
-        Then::Hurt(step) => At {
-            store: hurt_part(name, sum(step, 4), sum(step, 9), 0, x),
-            kept: 0,
-        },
-        Then::Cut => At {
-            store: with_counts(a.store, a.store.shape.n, a.answer[3]),
-            kept: 0,
-        },
-        Then::Grow => At {
-            store: grown(x, a),
-            kept: 0,
-        },
+    // To where the pass has come. A number is kept for calls of the same store alone.
+    pub fn go_on(&mut self, then: Then, a: &Outcome) {
+        self.image = a.image;
+        let store = match then {
+            Then::Nothing => return,
+            Then::Keep => {
+                self.kept = a.answer[3];
+                return;
+            }
+            Then::Hurt(draw) => self
+                .store
+                .hurt_part(draw.later(4), draw.later(9), Part::Keys),
+            Then::Cut => a.store.with_counts(a.store.shape.n, a.answer[3]),
+            Then::Grow => self.grown(a),
+        };
+        self.store = store;
+        self.kept = 0;
     }
 }

@@ -1,5 +1,5 @@
 // The calls that are compared, in their order. Nothing here makes one: each is a question that the program asks of both sides, and what the store's
-// side came to makes the next.
+// side came to makes the next. A call goes by its place in its pass, a number that is computed.
 #![tactic(auto)]
 
 pub mod answer;

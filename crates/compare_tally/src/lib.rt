@@ -1,64 +1,49 @@
-// How many calls were compared and how many differ, of each kind; and how many gave each answer.
+// How many calls were compared and how many differ, of each kind; and how many gave each answer. What is printed goes through the library `io`, since
+// a `println!` can fail, and what prints here cannot.
 #![tactic(auto)]
 
-use std::num::wrapping_add_u64;
+use compare_asked::call::Kind;
+use compare_asked::side::Outcome;
 
-// The kinds: 0 build, 1 check, 2 lookup, 3 range, 4 insert, 5 writing, 6 reading. Cell `kind` counts the calls, 8 + kind those that differ, and
-// 16 + number the refusals of that number, 16 being what was accepted.
-fn bump(tally: &mut [u64; 32], cell: usize) {
-    if cell < 32 {
-        tally[cell] = wrapping_add_u64(tally[cell], 1);
-    }
+// The calls of a kind.
+#[derive(Clone, Copy, Default)]
+struct Count {
+    compared: u64,
+    differ: u64,
 }
 
-// Whether two answers are the same.
-fn same_answer(a: [u64; 8], b: [u64; 8]) -> bool {
-    for i in 0..8 {
-        if a[i] != b[i] {
-            return false;
-        }
-    }
-    true
+// `kinds` counts by the kind, in its order; `answers` the refusals by their number, 0 being what was accepted, and the last cell all numbers from 15
+// on.
+#[derive(Clone, Copy, Default)]
+pub struct Tally {
+    kinds: [Count; 7],
+    answers: [u64; 16],
 }
 
 // The name of a kind.
-fn write_name(kind: usize) {
+fn name(kind: Kind) -> &'static [u8] {
     match kind {
-        0 => {
-            io::write_all(1, b"build");
-        }
-        1 => {
-            io::write_all(1, b"check");
-        }
-        2 => {
-            io::write_all(1, b"lookup");
-        }
-        3 => {
-            io::write_all(1, b"range");
-        }
-        4 => {
-            io::write_all(1, b"insert");
-        }
-        5 => {
-            io::write_all(1, b"image writing");
-        }
-        _ => {
-            io::write_all(1, b"image reading");
-        }
+        Kind::Build => b"build",
+        Kind::Check => b"check",
+        Kind::Lookup => b"lookup",
+        Kind::Range => b"range",
+        Kind::Insert => b"insert",
+        Kind::ImageWriting => b"image writing",
+        Kind::ImageReading => b"image reading",
     }
 }
 
 // The eight numbers of an answer.
 fn write_answer(a: [u64; 8]) {
-    for i in 0..8 {
+    for x in a {
         io::write_all(1, b" ");
-        io::print_decimal(1, a[i]);
+        io::print_decimal(1, x);
     }
 }
 
 // The two answers; where they are the same, that cells differ.
 fn write_both(a: [u64; 8], p: [u64; 8]) {
-    if same_answer(a, p) {
+    if a == p {
         io::write_all(1, b" cells; both answer");
         write_answer(a);
         return;
@@ -68,78 +53,55 @@ fn write_both(a: [u64; 8], p: [u64; 8]) {
     write_answer(p);
 }
 
-// The first difference of a kind is printed.
-fn differ(tally: &mut [u64; 32], kind: usize, round: u64, a: [u64; 8], p: [u64; 8]) {
-    bump(tally, 8 + kind % 8);
-    if tally[8 + kind % 8] == 1 {
-        write_name(kind);
-        io::write_all(1, b" differs, round ");
-        io::print_decimal(1, round);
-        io::write_all(1, b":");
-        write_both(a, p);
-        io::write_all(1, b"\n");
-    }
-}
-
-// The cell that counts the answers with a refusal of this number.
-fn cell_of(number: u64) -> usize {
-    if number < 16 {
-        return 16 + number as usize;
-    }
-    31
-}
-
-// A call that was made: counted, and printed if it is the first of its kind to differ. `cells`: whether all the cells agree.
-pub fn report(
-    tally: &mut [u64; 32],
-    kind: usize,
-    round: u64,
-    a: [u64; 8],
-    p: [u64; 8],
-    cells: bool,
-) {
-    bump(tally, kind);
-    bump(tally, cell_of(a[0]));
-    if same_answer(a, p) {
-        if cells {
-            return;
-        }
-    }
-    differ(tally, kind, round, a, p);
+// A difference.
+fn write_difference(kind: Kind, round: u64, a: [u64; 8], p: [u64; 8]) {
+    io::write_all(1, name(kind));
+    io::write_all(1, b" differs, round ");
+    io::print_decimal(1, round);
+    io::write_all(1, b":");
+    write_both(a, p);
+    io::write_all(1, b"\n");
 }
 
 // How many calls of a kind there were, and how many differ.
-fn write_kind(tally: &[u64; 32], kind: usize) {
-    write_name(kind);
+fn write_count(kind: Kind, count: Count) {
+    io::write_all(1, name(kind));
     io::write_all(1, b" ");
-    io::print_decimal(1, tally[kind % 8]);
+    io::print_decimal(1, count.compared);
     io::write_all(1, b" compared, ");
-    io::print_decimal(1, tally[8 + kind % 8]);
+    io::print_decimal(1, count.differ);
     io::write_all(1, b" differ\n");
 }
 
-// The same of every kind.
-fn write_kinds(tally: &[u64; 32]) {
-    for kind in 0..7 {
-        write_kind(tally, kind);
+impl Tally {
+    // A call that was made: counted, and printed if it is the first of its kind to differ. `a` is what the store's side came to, `p` the plain one's.
+    pub fn report(&mut self, kind: Kind, round: u64, a: &Outcome, p: &Outcome) {
+        let number = a.answer[0].min(15) as usize;
+        self.answers[number] = self.answers[number].wrapping_add(1);
+        let count = &mut self.kinds[kind as usize];
+        count.compared = count.compared.wrapping_add(1);
+        if a == p {
+            return;
+        }
+        count.differ = count.differ.wrapping_add(1);
+        if count.differ == 1 {
+            write_difference(kind, round, a.answer, p.answer);
+        }
     }
-}
 
-// How many calls were refused, by the number of the refusal.
-fn write_refusals(tally: &[u64; 32]) {
-    for number in 1..11 {
-        io::write_all(1, b", refused ");
-        io::print_decimal(1, number);
-        io::write_all(1, b": ");
-        io::print_decimal(1, tally[cell_of(number) % 32]);
+    // The whole tally.
+    pub fn write_all(&self) {
+        for (kind, count) in Kind::ALL.iter().zip(&self.kinds) {
+            write_count(*kind, *count);
+        }
+        io::write_all(1, b"accepted: ");
+        io::print_decimal(1, self.answers[0]);
+        for (number, count) in (1..11).zip(&self.answers[1..11]) {
+            io::write_all(1, b", refused ");
+            io::print_decimal(1, number);
+            io::write_all(1, b": ");
+            io::print_decimal(1, *count);
+        }
+        io::write_all(1, b"\n");
     }
-}
-
-// The whole tally.
-pub fn write_all(tally: &[u64; 32]) {
-    write_kinds(tally);
-    io::write_all(1, b"accepted: ");
-    io::print_decimal(1, tally[16]);
-    write_refusals(tally);
-    io::write_all(1, b"\n");
 }

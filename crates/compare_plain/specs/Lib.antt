@@ -1,0 +1,3 @@
+pub mod Cells
+pub mod Numbers
+pub mod Segments
