@@ -1,21 +1,21 @@
 -- The keys as they are judged: where the scan finds no fault they rise.
 -- Assumes nothing.
+use Rattle.std.specs.Prelude.{Some, None}
 use mathlib.Core.Path.{◌≡◌, sym, ◌∙◌}
 use mathlib.Core.Bool.{Bool, true, false}
 use mathlib.Core.List.{List}
 use Prim.Native.Nat.{ℕ, suc, ◌+◌, ◌-◌, ◌≤◌, ◌<◌}
 use native.Mathlib.Nat.{sub-zero}
 use native.Mathlib.Omega.{arith}
-use lib.Dec.{ltb}
+use lib.Dec.{ltb, eqb}
 use lib.ListN.{length, get_or, take}
 use lib.Seq.{get_or-take, length-take-le}
-use borrow.Author.Tests.{ltb-true, lt-ltb, le-ltb}
+use borrow.Author.Tests.{ltb-true, lt-ltb, le-ltb, eq-eqb}
 use Rattle.lists.specs.Tests.{imp}
 use Rattle.lists.proofs.Tests.{both_true, true_both, imp_true, true_imp, either, is_false, clash}
 use Rattle.lists.proofs.Rising.{neighbours_up}
 use Rattle.terms.specs.Keys.{is_key, RisingKeys}
 use Rattle.terms.specs.declared.Refusal.TheVariants.{LargeKey, NotRising}
-use Rattle.scan.specs.declared.Found.TheVariants.{At, Nothing}
 use Rattle.scan.specs.Scan.{fails_of}
 use Rattle.scan.specs.Meaning.{Lowest, Scanned}
 use Rattle.scan.proofs.Laws.{fail_here, fail_on, fail_end}
@@ -44,17 +44,17 @@ module _ (keys : List ℕ) (p : ℕ) where
 
   -- as the code answers
   module _ {r : Bool} (tested : r ≡ is_key (get_or keys p 0)) where
-    pub good_later : r ≡ true → 0 < p → ltb (get_or keys (p - 1) 0) (get_or keys p 0) ≡ good_of keys p
+    pub good_later : r ≡ true → (p ≡ 0 → ⊥) → ltb (get_or keys (p - 1) 0) (get_or keys p 0) ≡ good_of keys p
     unfolding good_of
-    good_later q h = simp (sym tested ∙ q, lt-ltb _ _ h)
+    good_later q h = simp (sym tested ∙ q, lt-ltb 0 p (omega arith))
 
-    pub good_first : r ≡ true → p ≤ 0 → true ≡ good_of keys p
+    pub good_first : r ≡ true → p ≡ 0 → eqb p 0 ≡ good_of keys p
     unfolding good_of
-    good_first q h = simp (sym tested ∙ q, le-ltb _ _ h)
+    good_first q h = simp (sym tested ∙ q, le-ltb 0 p (omega arith), eq-eqb p 0 h)
 
-    pub good_not : r ≡ false → false ≡ good_of keys p
+    pub good_not : r ≡ false → r ≡ good_of keys p
     unfolding good_of
-    good_not q = simp (sym tested ∙ q)
+    good_not q = simp (sym tested ∙ q) q
 
 pub ruleset good_cases = (good_later, good_first, good_not)
 
@@ -69,13 +69,13 @@ module _ (keys : List ℕ) (n : ℕ) where
     whole : fails_of (good_of keys) 0 (n - 0) ≡ fails_of (good_of keys) p (n - p)
     whole = sym fault_start ∙ so_far
 
-    pub fault_here : {r : Bool} → p < n → r ≡ good_of keys p → r ≡ false → At p ≡ fault_of keys n
+    pub fault_here : {r : Bool} → p < n → r ≡ good_of keys p → r ≡ false → Some p ≡ fault_of keys n
     fault_here h is q = sym (fault_start ∙ fail_here (good_of keys) 0 n p whole h is q)
 
     pub fault_on : {r : Bool} → p < n → r ≡ good_of keys p → r ≡ true → fault_of keys n ≡ fails_of (good_of keys) (p + 1) (n - (p + 1))
     fault_on h is q = fault_start ∙ fail_on (good_of keys) 0 n p whole h is q
 
-    pub fault_end : n ≤ p → Nothing ≡ fault_of keys n
+    pub fault_end : n ≤ p → None ≡ fault_of keys n
     fault_end h = sym (fault_start ∙ fail_end (good_of keys) 0 n p whole h)
 
   pub ruleset fault_cases = (fault_start, fault_here, fault_on, fault_end)
@@ -85,22 +85,22 @@ module _ (keys : List ℕ) (n : ℕ) where
   unfolding fault_of
   faults = let z : 0 + n ≡ n = omega arith in rw z at (fails_scanned (good_of keys) 0 n)
 
-  pub fault_lowest : {p : ℕ} → fault_of keys n ≡ At p → Lowest (λ q. good_of keys q ≡ false) 0 n p
+  pub fault_lowest : {p : ℕ} → fault_of keys n ≡ Some p → Lowest (λ q. good_of keys q ≡ false) 0 n p
   fault_lowest q = rw q at faults
 
-  pub all_good : fault_of keys n ≡ Nothing → (q : ℕ) → q < n → Good keys q
+  pub all_good : fault_of keys n ≡ None → (q : ℕ) → q < n → Good keys q
   all_good e q h =
-      let none : Scanned (λ q. good_of keys q ≡ false) 0 n Nothing = rw e at faults in
+      let none : Scanned (λ q. good_of keys q ≡ false) 0 n None = rw e at faults in
       good_true keys q (either (good_of keys q) (λ t. t) (λ t. absurd (none q (omega arith) h t)))
 
   -- and back: from what a position is like to what the scan finds
-  pub fault_none : ((q : ℕ) → q < n → Good keys q) → fault_of keys n ≡ Nothing
+  pub fault_none : ((q : ℕ) → q < n → Good keys q) → fault_of keys n ≡ None
   fault_none good =
-      one_answer (λ q. good_of keys q ≡ false) 0 n (fault_of keys n) Nothing faults (λ q a h e. clash (sym (true_good keys q (good q h)) ∙ e))
+      one_answer (λ q. good_of keys q ≡ false) 0 n (fault_of keys n) None faults (λ q a h e. clash (sym (true_good keys q (good q h)) ∙ e))
 
-  pub fault_at : (p : ℕ) → p < n → (Good keys p → ⊥) → ((q : ℕ) → q < p → Good keys q) → fault_of keys n ≡ At p
+  pub fault_at : (p : ℕ) → p < n → (Good keys p → ⊥) → ((q : ℕ) → q < p → Good keys q) → fault_of keys n ≡ Some p
   fault_at p below not_good good =
-      one_answer (λ q. good_of keys q ≡ false) 0 n (fault_of keys n) (At p) faults
+      one_answer (λ q. good_of keys q ≡ false) 0 n (fault_of keys n) (Some p) faults
       (record {
         from = omega arith;
         below = below;
@@ -109,11 +109,11 @@ module _ (keys : List ℕ) (n : ℕ) where
       })
 
   -- the positions below the lowest fault are good
-  pub lower_good : {p : ℕ} → fault_of keys n ≡ At p → (q : ℕ) → q < p → Good keys q
+  pub lower_good : {p : ℕ} → fault_of keys n ≡ Some p → (q : ℕ) → q < p → Good keys q
   lower_good at q h =
       good_true keys q (either (good_of keys q) (λ t. t) (λ t. absurd ((fault_lowest at).first q (omega arith) h t)))
 
-  pub fault_not_good : {p : ℕ} → fault_of keys n ≡ At p → Good keys p → ⊥
+  pub fault_not_good : {p : ℕ} → fault_of keys n ≡ Some p → Good keys p → ⊥
   fault_not_good {p} at good = clash (sym (true_good keys p good) ∙ (fault_lowest at).holds)
 
 -- the first n keys rise

@@ -9,7 +9,8 @@ use native.Mathlib.Omega.{arith}
 use lib.Dec.{ltb, eqb}
 use lib.ListN.{length, get_or}
 use borrow.Author.Tests.{ltb-true, ltb-false, lt-ltb, eqb-true, eqb-false}
-use Rattle.lists.proofs.Tests.{all_each, each_all, either, is_false}
+use Rattle.lists.specs.Tests.{all}
+use Rattle.lists.proofs.Tests.{all_each, either, is_false}
 use Rattle.terms.specs.Keys.{is_key}
 use Rattle.terms.proofs.Keys.{key_true}
 use Rattle.scan.specs.Scan.{fails_of}
@@ -25,9 +26,13 @@ four_true keys p h =
     let t : _ = all_each (fours keys p) h in
     record { first = ltb-true _ _ t.0; second = ltb-true _ _ t.1.0; third = ltb-true _ _ t.1.1.0; fourth = ltb-true _ _ t.1.1.1.0 }
 
-pub four_yes : (keys : List ℕ) (p : ℕ) → Four keys p → true ≡ four_of keys p
-unfolding four_of
-four_yes keys p h = sym (each_all (fours keys p) (lt-ltb _ _ h.first, (lt-ltb _ _ h.second, (lt-ltb _ _ h.third, (lt-ltb _ _ h.fourth, tt)))))
+-- the last test answers, where those before it hold
+pub four_last : (keys : List ℕ) (p : ℕ) → get_or keys (p - 1) 0 < get_or keys p 0 → get_or keys p 0 < get_or keys (p + 1) 0 →
+    get_or keys (p + 1) 0 < get_or keys (p + 2) 0 → ltb (get_or keys (p + 2) 0) (get_or keys (p + 3) 0) ≡ four_of keys p
+unfolding four_of all
+four_last keys p a b c =
+    simp (lt-ltb _ _ a, lt-ltb _ _ b, lt-ltb _ _ c)
+    (either (ltb (get_or keys (p + 2) 0) (get_or keys (p + 3) 0)) (λ t. rw t refl) (λ t. rw t refl))
 
 pub four_no : (keys : List ℕ) (p : ℕ) → (Four keys p → ⊥) → false ≡ four_of keys p
 four_no keys p h = sym (is_false (four_of keys p) (λ e. h (four_true keys p e)))

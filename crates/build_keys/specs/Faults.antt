@@ -1,11 +1,11 @@
 -- 01, "2 or 3 at the lowest faulty position, 2 before 3": the keys given, each judged with the one before.
 -- A test that is used as a fact stands beside the record of that fact.
+use Rattle.std.specs.Prelude.{Option}
 use Rattle.std.specs.Prelude.{Bool, List, ℕ, ◌-◌, ◌≤◌, ◌<◌, ltb, length, get_or}
 use Rattle.lists.specs.Tests.{pick, both, imp}
 use Rattle.terms.specs.Keys.{is_key, IsKey}
 use Rattle.terms.specs.declared.Refusal.{Refusal}
 use Rattle.terms.specs.declared.Refusal.TheVariants.{LargeKey, NotRising}
-use Rattle.scan.specs.declared.Found.{Found}
 use Rattle.scan.specs.Scan.{fails_of}
 
 -- the key at p is below 2^44, and above the one before
@@ -17,7 +17,7 @@ pub record Good (keys : List ℕ) (p : ℕ) : Type 0 where
   pub above : 0 < p → get_or keys (p - 1) 0 < get_or keys p 0
 
 -- the lowest faulty position among the first n
-unfoldable pub fault_of : List ℕ → ℕ → Found
+unfoldable pub fault_of : List ℕ → ℕ → Option ℕ
 fault_of keys n = fails_of (good_of keys) 0 n
 
 -- 2: "a key given is not below 2^44"; 3: "key not above the one before"; "2 before 3"

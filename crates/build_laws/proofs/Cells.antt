@@ -1,5 +1,6 @@
 -- What build leaves in the table.
 -- Assumes nothing.
+use Rattle.std.specs.Prelude.{Ok, Err}
 use mathlib.Core.Path.{◌≡◌, refl, sym, ap, ◌∙◌}
 use mathlib.Core.List.{List, [], ◌∷◌, ◌++◌}
 use Prim.Native.Nat.{ℕ, zero, suc, ◌+◌, ◌-◌, ◌*◌, ◌≤◌, ◌<◌}
@@ -13,14 +14,13 @@ use Rattle.table.proofs.Limits.{Holds, room_holds}
 use Rattle.cone.specs.Rule.{Segment, cut}
 use Rattle.cutting.specs.Rows.{row_of, rows_of}
 use Rattle.cutting.proofs.Rows.{rows_length}
-use Rattle.answers.specs.declared.Built.TheVariants.{Made, Refused}
 use Rattle.build.specs.Build.{built_of, table_by}
 use Rattle.build_laws.specs.Builds.{Accepted}
 use Rattle.build_laws.specs.Leaves.{Entered, nowhere, Leaves}
 use Rattle.build_laws.proofs.Meaning.{answers, made_accepted}
 
 -- "no lent slice differs from before the call": the table is the only slice that build is lent to write
-pub refusal_keeps : (r : Refusal) (e n : ℕ) (keys table : List ℕ) → table_by (Refused r) e n keys table ≡ table
+pub refusal_keeps : (r : Refusal) (e n : ℕ) (keys table : List ℕ) → table_by (Err r) e n keys table ≡ table
 refusal_keeps r e n keys table = refl
 
 -- the rows of a list of segments, read back
@@ -61,8 +61,8 @@ module _ (l : List Segment) (table : List ℕ) (room : 5 * length l ≤ length t
 
 -- An accepted build of n keys leaves exactly the entries of their cut in the first 5·s cells, and each other cell as it was.
 pub made_leaves :
-    (e b n : ℕ) (keys table buffers : List ℕ) {s : ℕ} → built_of e b n keys table buffers ≡ Made s
-    → Leaves (cut e (take n keys)) table (table_by (Made s) e n keys table)
+    (e b n : ℕ) (keys table buffers : List ℕ) {s : ℕ} → built_of e b n keys table buffers ≡ Ok s
+    → Leaves (cut e (take n keys)) table (table_by (Ok s) e n keys table)
 unfolding after
 made_leaves e b n keys table buffers {s} is =
     let w : Accepted e b n keys table buffers s = made_accepted e b n keys table buffers s (rw is at (answers e b n keys table buffers)) in

@@ -1,12 +1,14 @@
 -- No second outcome meets the promise of build: not another answer, and no other cell in the table, the one slice that it is lent to write.
 -- Assumes nothing.
+use Rattle.std.specs.Prelude.{Result}
+use Rattle.std.specs.Prelude.{ℕ}
+use Rattle.terms.specs.declared.Refusal.{Refusal}
 use mathlib.Core.Path.{◌≡◌, sym, ◌∙◌}
 use contract.Lifetimes.{Lfts}
-use Rattle.answers.specs.declared.Built.{Built}
 use Rattle.build.proofs.build.Reads as build
 
 -- the table is the fifth parameter
-pub one_outcome : (κs : Lfts 3) (a : _) (r r' : Built) (x x' : _) → build.Post κs a r x → build.Post κs a r' x' →
+pub one_outcome : (κs : Lfts 3) (a : _) (r r' : Result ℕ Refusal) (x x' : _) → build.Post κs a r x → build.Post κs a r' x' →
     (r ≡ r') × (x.1.1.1.1.0.now ≡ x'.1.1.1.1.0.now)
 one_outcome κs a r r' x x' p q =
     let e : r ≡ r' = p.0 ∙ sym q.0 in

@@ -1,5 +1,6 @@
 -- Answers that the promise shuts out, on inputs of 01: the printed store, and faults of the keys.
 -- Assumes nothing.
+use Rattle.std.specs.Prelude.{Result, Ok, Err}
 use mathlib.Core.Path.{◌≡◌, refl, ◌∙◌}
 use mathlib.Core.List.{List, [], ◌∷◌}
 use Prim.Native.Nat.{ℕ, ◌^◌}
@@ -11,7 +12,6 @@ use Rattle.scan.specs.Scan.{first_passing, fails_of}
 use Rattle.table.specs.Limits.{sized_of}
 use Rattle.cone.specs.Rule.{joins, segment_of, cut_from, cut}
 use Rattle.cutting.specs.Rows.{rows_of}
-use Rattle.answers.specs.declared.Built.TheVariants.{Made, Refused}
 use Rattle.build_keys.specs.Faults.{good_of, fault_of, wrong_of}
 use Rattle.build.specs.Build.{takes_of, judged_of, built_of, table_by}
 use Rattle.build_laws.specs.Builds.{Builds}
@@ -27,46 +27,46 @@ table_cells = 7 ∷ 7 ∷ 7 ∷ 7 ∷ 7 ∷ 7 ∷ 7 ∷ 7 ∷ 7 ∷ 7 ∷ 7 ∷ 
 abbrev slots : List ℕ
 slots = 7 ∷ 7 ∷ 7 ∷ 7 ∷ 7 ∷ []
 
-pub printed : built_of 1 2 6 printed_keys table_cells slots ≡ Made 2
+pub printed : built_of 1 2 6 printed_keys table_cells slots ≡ Ok 2
 unfolding built_of judged_of takes_of sized_of all fault_of fails_of first_passing good_of cut cut_from joins segment_of
 printed = refl
 
-pub printed_table : table_by (Made 2) 1 6 printed_keys table_cells ≡ 10 ∷ 0 ∷ 2 ∷ 20 ∷ 0 ∷ 100 ∷ 3 ∷ 2 ∷ 20 ∷ 0 ∷ 7 ∷ 7 ∷ 7 ∷ 7 ∷ []
+pub printed_table : table_by (Ok 2) 1 6 printed_keys table_cells ≡ 10 ∷ 0 ∷ 2 ∷ 20 ∷ 0 ∷ 100 ∷ 3 ∷ 2 ∷ 20 ∷ 0 ∷ 7 ∷ 7 ∷ 7 ∷ 7 ∷ []
 unfolding cut cut_from joins segment_of rows_of
 printed_table = refl
 
 -- nine cells have room for one entry only
-pub printed_cramped : built_of 1 2 6 printed_keys (7 ∷ 7 ∷ 7 ∷ 7 ∷ 7 ∷ 7 ∷ 7 ∷ 7 ∷ 7 ∷ []) slots ≡ Refused SegmentRoom
+pub printed_cramped : built_of 1 2 6 printed_keys (7 ∷ 7 ∷ 7 ∷ 7 ∷ 7 ∷ 7 ∷ 7 ∷ 7 ∷ 7 ∷ []) slots ≡ Err SegmentRoom
 unfolding built_of judged_of takes_of sized_of all fault_of fails_of first_passing good_of cut cut_from joins segment_of
 printed_cramped = refl
 
 -- the seventh key is not above the sixth; of the keys 5, 5, 2^44 the lowest fault is the second's
-pub seventh_falls : built_of 1 2 7 printed_keys table_cells slots ≡ Refused (NotRising (record { 0 = 6 }))
+pub seventh_falls : built_of 1 2 7 printed_keys table_cells slots ≡ Err (NotRising (record { 0 = 6 }))
 unfolding built_of judged_of takes_of sized_of all fault_of fails_of first_passing good_of wrong_of
 seventh_falls = refl
 
-pub lowest_falls : built_of 0 1 3 (5 ∷ 5 ∷ 2 ^ 44 ∷ []) table_cells slots ≡ Refused (NotRising (record { 0 = 1 }))
+pub lowest_falls : built_of 0 1 3 (5 ∷ 5 ∷ 2 ^ 44 ∷ []) table_cells slots ≡ Err (NotRising (record { 0 = 1 }))
 unfolding built_of judged_of takes_of sized_of all fault_of fails_of first_passing good_of wrong_of
 lowest_falls = refl
 
-pub large_first : built_of 0 1 2 (2 ^ 44 ∷ 5 ∷ []) table_cells slots ≡ Refused (LargeKey (record { 0 = 0 }))
+pub large_first : built_of 0 1 2 (2 ^ 44 ∷ 5 ∷ []) table_cells slots ≡ Err (LargeKey (record { 0 = 0 }))
 unfolding built_of judged_of takes_of sized_of all fault_of fails_of first_passing good_of wrong_of
 large_first = refl
 
-pub too_many : built_of 0 1 8 printed_keys table_cells slots ≡ Refused Limits
+pub too_many : built_of 0 1 8 printed_keys table_cells slots ≡ Err Limits
 unfolding built_of judged_of takes_of sized_of all
 too_many = refl
 
 -- a builder that refuses all: no refusal of the printed keys has its meaning
-pub not_refused : (r : Refusal) → Builds 1 2 6 printed_keys table_cells slots (Refused r) → ⊥
-not_refused r w = let e : Refused r ≡ Made 2 = only 1 2 6 printed_keys table_cells slots (Refused r) w ∙ printed in let z : ◌≡◌ {A = ℕ} 0 1 = cc in omega arith
+pub not_refused : (r : Refusal) → Builds 1 2 6 printed_keys table_cells slots (Err r) → ⊥
+not_refused r w = let e : ◌≡◌ {A = Result ℕ Refusal} (Err r) (Ok 2) = only 1 2 6 printed_keys table_cells slots (Err r) w ∙ printed in let z : ◌≡◌ {A = ℕ} 0 1 = cc in omega arith
 
 -- a builder that takes all: keys that fall are never made into segments
-pub not_made : (s : ℕ) → Builds 1 2 7 printed_keys table_cells slots (Made s) → ⊥
+pub not_made : (s : ℕ) → Builds 1 2 7 printed_keys table_cells slots (Ok s) → ⊥
 not_made s w =
-    let e : Made s ≡ Refused (NotRising (record { 0 = 6 })) = only 1 2 7 printed_keys table_cells slots (Made s) w ∙ seventh_falls in
+    let e : ◌≡◌ {A = Result ℕ Refusal} (Ok s) (Err (NotRising (record { 0 = 6 }))) = only 1 2 7 printed_keys table_cells slots (Ok s) w ∙ seventh_falls in
     let z : ◌≡◌ {A = ℕ} 0 1 = cc in omega arith
 
 -- a builder that counts wrongly
-pub not_one : Builds 1 2 6 printed_keys table_cells slots (Made 1) → ⊥
-not_one w = let e : Made 1 ≡ Made 2 = only 1 2 6 printed_keys table_cells slots (Made 1) w ∙ printed in let z : ◌≡◌ {A = ℕ} 1 2 = cc in omega arith
+pub not_one : Builds 1 2 6 printed_keys table_cells slots (Ok 1) → ⊥
+not_one w = let e : ◌≡◌ {A = Result ℕ Refusal} (Ok 1) (Ok 2) = only 1 2 6 printed_keys table_cells slots (Ok 1) w ∙ printed in let z : ◌≡◌ {A = ℕ} 1 2 = cc in omega arith

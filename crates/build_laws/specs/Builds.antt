@@ -1,12 +1,12 @@
 -- 01, "Refusal numbers", the rows that are build's: when each answer is given, with no scan and no loop in it.
 -- "Order. Build: 1; then 2 or 3 at the lowest faulty position, 2 before 3; 7."
+use Rattle.std.specs.Prelude.{Result, Ok, Err}
+use Rattle.terms.specs.declared.Refusal.{Refusal}
 use Rattle.std.specs.Prelude.{◌≡◌, List, ℕ, ◌-◌, ◌≤◌, ◌<◌, length, get_or, take}
 use Rattle.terms.specs.Keys.{IsKey, NoKey}
 use Rattle.terms.specs.declared.Refusal.TheVariants.{Limits, LargeKey, NotRising, SegmentRoom}
 use Rattle.table.specs.Limits.{segment_room}
 use Rattle.cone.specs.Rule.{cut}
-use Rattle.answers.specs.declared.Built.{Built}
-use Rattle.answers.specs.declared.Built.TheVariants.{Made, Refused}
 use Rattle.build_keys.specs.Faults.{Good}
 use Rattle.build.specs.Build.{Takes}
 
@@ -46,9 +46,9 @@ pub record Accepted (e b n : ℕ) (keys table buffers : List ℕ) (s : ℕ) : Ty
 
 -- the answers, and the refusals in 01's order: 1, "e, B, n or s outside its limits, or n .. above the slice's length (build has no s yet)"; then 2 or
 -- 3 at the lowest faulty position; 7
-pub data Builds (e b n : ℕ) (keys table buffers : List ℕ) : Built → Type 0 where
-  made : {s : ℕ} → Accepted e b n keys table buffers s → Builds e b n keys table buffers (Made s)
-  refused_1 : (Takes e b n keys → ⊥) → Builds e b n keys table buffers (Refused Limits)
-  refused_2 : {p : ℕ} → Large e b n keys p → Builds e b n keys table buffers (Refused (LargeKey (record { 0 = p })))
-  refused_3 : {p : ℕ} → Falls e b n keys p → Builds e b n keys table buffers (Refused (NotRising (record { 0 = p })))
-  refused_7 : Cramped e b n keys table buffers → Builds e b n keys table buffers (Refused SegmentRoom)
+pub data Builds (e b n : ℕ) (keys table buffers : List ℕ) : Result ℕ Refusal → Type 0 where
+  made : {s : ℕ} → Accepted e b n keys table buffers s → Builds e b n keys table buffers (Ok s)
+  refused_1 : (Takes e b n keys → ⊥) → Builds e b n keys table buffers (Err Limits)
+  refused_2 : {p : ℕ} → Large e b n keys p → Builds e b n keys table buffers (Err (LargeKey (record { 0 = p })))
+  refused_3 : {p : ℕ} → Falls e b n keys p → Builds e b n keys table buffers (Err (NotRising (record { 0 = p })))
+  refused_7 : Cramped e b n keys table buffers → Builds e b n keys table buffers (Err SegmentRoom)

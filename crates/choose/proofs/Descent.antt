@@ -1,14 +1,14 @@
 -- The cases of the walk that chooses, entry by entry, four and sixteen at a time.
 -- Assumes nothing.
-use mathlib.Core.Path.{◌≡◌, refl, sym, ap, ◌∙◌}
-use mathlib.Core.Bool.{Bool, true, false}
+use mathlib.Core.Path.{◌≡◌, refl, sym, ◌∙◌}
+use mathlib.Core.Bool.{Bool, true}
 use mathlib.Core.List.{List}
 use Prim.Native.Nat.{ℕ, zero, suc, ◌+◌, ◌-◌, ◌*◌, ◌≤◌, ◌<◌}
 use native.Mathlib.Omega.{arith}
 use lib.Dec.{leb, ltb}
-use lib.ListN.{length, get_or, take, drop}
+use lib.ListN.{length, get_or, take}
 use lib.Seq.{get_or-take, length-take-le}
-use borrow.Author.Tests.{le-leb, lt-leb, leb-true, leb-false, lt-ltb, le-ltb, ltb-true}
+use borrow.Author.Tests.{le-leb, lt-leb, leb-true, leb-false, ltb-true}
 use Rattle.lists.specs.Tests.{both}
 use Rattle.lists.proofs.Tests.{either, both_true}
 use Rattle.table.specs.Entries.{Rows}
@@ -57,14 +57,11 @@ part_same t m zero k h = refl
 part_same t m (suc s) k h = rw (get_or-take m t (5 * s) 0 (omega arith), part_same t m s k (omega arith)) refl
 
 module _ (t : List ℕ) (s k : ℕ) (rows : Rows t s) where
-  lent_is : take (5 * s - 0) (drop 0 t) ≡ take (5 * s) t
-  lent_is = let e : 5 * s - 0 ≡ 5 * s = omega arith in ap (λ (m : ℕ). take m t) e
+  pub some_asks : Rows (take (5 * s) t) s
+  some_asks = record { few = rows.few; held = omega (arith, length-take-le (5 * s) t rows.held) }
 
-  pub some_asks : Rows (take (5 * s - 0) (drop 0 t)) s
-  some_asks = rw lent_is (record { few = rows.few; held = omega (arith, length-take-le (5 * s) t rows.held) })
-
-  pub some_chosen : {r : ℕ} → r ≡ chosen_of (take (5 * s - 0) (drop 0 t)) s k → r ≡ chosen_of t s k
-  some_chosen is = is ∙ ap (λ (l : List ℕ). chosen_of l s k) lent_is ∙ part_same t (5 * s) s k (omega arith)
+  pub some_chosen : {r : ℕ} → r ≡ chosen_of (take (5 * s) t) s k → r ≡ chosen_of t s k
+  some_chosen is = is ∙ part_same t (5 * s) s k (omega arith)
 
 pub ruleset some_cases = (walk_one, some_asks, some_chosen)
 
@@ -170,39 +167,6 @@ module _ (t : List ℕ) (s k i : ℕ) (done : Descended t s k i) where
 pub ruleset walk_cases = (four_asks, four_hit, four_on, few_asks, few_left)
 
 -- ---- sixteen entries are four fours
-
-module _ (t : List ℕ) (i k : ℕ) where
-  pub sixteen_none : i ≤ 16 → false ≡ sixteen_of t i k
-  unfolding sixteen_of
-  sixteen_none h = simp (le-ltb _ _ h)
-
-  module _ (h : 16 < i) where
-    pub sixteen_asks : (j : ℕ) → Rows t i → j ≤ 12 → Fourth t (i - j)
-    sixteen_asks j rows l = record { rows = record { few = omega (arith, rows.few); held = omega (arith, rows.held) }; four = omega (arith, h, l) }
-
-    pub sixteen_first : Rows t i → Fourth t i
-    sixteen_first rows = record { rows = rows; four = omega (arith, h) }
-
-    module _ {a : ℕ} (first : a ≡ passed_of t i k 0 4) where
-      pub sixteen_1 : a < 4 → false ≡ sixteen_of t i k
-      unfolding sixteen_of
-      sixteen_1 q = simp (lt-ltb _ _ h, lt-leb _ _ (rw first at q))
-
-      module _ (one : 4 ≤ a) {b : ℕ} (second : b ≡ passed_of t (i - 4) k 0 4) where
-        pub sixteen_2 : b < 4 → false ≡ sixteen_of t i k
-        unfolding sixteen_of
-        sixteen_2 q = simp (lt-ltb _ _ h, le-leb _ _ (rw first at one), lt-leb _ _ (rw second at q))
-
-        module _ (two : 4 ≤ b) {c : ℕ} (third : c ≡ passed_of t (i - 8) k 0 4) where
-          pub sixteen_3 : c < 4 → false ≡ sixteen_of t i k
-          unfolding sixteen_of
-          sixteen_3 q = simp (lt-ltb _ _ h, le-leb _ _ (rw first at one), le-leb _ _ (rw second at two), lt-leb _ _ (rw third at q))
-
-          pub sixteen_4 : {d : ℕ} → 4 ≤ c → d ≡ passed_of t (i - 12) k 0 4 → leb 4 d ≡ sixteen_of t i k
-          unfolding sixteen_of
-          sixteen_4 q r = simp (lt-ltb _ _ h, le-leb _ _ (rw first at one), le-leb _ _ (rw second at two), le-leb _ _ (rw third at q), r)
-
-pub ruleset sixteen_cases = (sixteen_none, sixteen_asks, sixteen_first, sixteen_1, sixteen_2, sixteen_3, sixteen_4)
 
 four_lower : (i a : ℕ) → i - a - 4 ≡ i - (a + 4)
 four_lower i a = omega arith

@@ -1,4 +1,7 @@
 -- 01, "Lookup": "Choose; refuse if that entry is damaged." The one definition of what a call knows of the table.
+use Rattle.std.specs.Prelude.{Result, Ok, Err}
+use Rattle.terms.specs.declared.Refusal.{Refusal}
+use Rattle.terms.specs.declared.Refusal.TheVariants.{StoreWrong}
 use Rattle.std.specs.Prelude.{◌≡◌, true, List, ℕ, ◌<◌}
 use Rattle.lists.specs.Tests.{pick}
 use Rattle.terms.specs.declared.Sizes.{Sizes}
@@ -7,18 +10,16 @@ use Rattle.table.specs.Store.{Store, sizes_in}
 use Rattle.table.specs.Entries.{entry_of}
 use Rattle.table.specs.Damaged.{damaged_of, Sound}
 use Rattle.choose.specs.Chosen.{chosen_of}
-use Rattle.choose.specs.declared.Picked.{Picked}
-use Rattle.choose.specs.declared.Picked.TheVariants.{Sound as SoundAt, Wrong}
 
 -- segment i, whose entry is x
-abbrev pub judged_of : Sizes → ℕ → Entry → Picked
-judged_of z i x = pick (damaged_of z.b z.n x) (Wrong i) (SoundAt i x)
+abbrev pub judged_of : Sizes → ℕ → Entry → Result (ℕ × Entry) Refusal
+judged_of z i x = pick (damaged_of z.b z.n x) (Err (StoreWrong i)) (Ok (i, x))
 
-unfoldable pub picked_of : Sizes → List ℕ → ℕ → Picked
+unfoldable pub picked_of : Sizes → List ℕ → ℕ → Result (ℕ × Entry) Refusal
 picked_of z t k = judged_of z (chosen_of t z.s k) (entry_of z.n z.s t (chosen_of t z.s k))
 
 -- of a store
-abbrev pub picked_in : Store → ℕ → Picked
+abbrev pub picked_in : Store → ℕ → Result (ℕ × Entry) Refusal
 picked_in σ k = picked_of (sizes_in σ) σ.table k
 
 -- what each answer says
@@ -32,6 +33,6 @@ pub record Breaks (z : Sizes) (t : List ℕ) (k i : ℕ) : Type 0 where
   pub chosen : i ≡ chosen_of t z.s k
   pub damaged : damaged_of z.b z.n (entry_of z.n z.s t i) ≡ true
 
-abbrev pub Told : Sizes → List ℕ → ℕ → Picked → Type 0
-Told z t k (SoundAt i x) = Picks z t k i x
-Told z t k (Wrong i) = Breaks z t k i
+abbrev pub Told : Sizes → List ℕ → ℕ → Result (ℕ × Entry) Refusal → Type 0
+Told z t k (Ok (i, x)) = Picks z t k i x
+Told z t k (Err r) = (i : ℕ) × (r ≡ StoreWrong i) × Breaks z t k i

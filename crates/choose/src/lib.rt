@@ -7,14 +7,7 @@ ghost use Rattle.choose.specs.Chosen.{chosen_of};
 ghost use Rattle.choose.specs.Descent.{Fourth, passed_of, sixteen_of, Descended};
 ghost use Rattle.choose.specs.Picked.{picked_of};
 
-use terms::{Entry, Key, Sizes};
-
-// The chosen segment with its entry, or the news that this entry is damaged.
-#[derive(Clone, Copy)]
-pub enum Picked {
-    Sound(usize, Entry),
-    Wrong(usize),
-}
+use terms::{Entry, Key, Refusal, Sizes};
 
 // How many of the four entries below i, from the highest down, come before the first whose first key is at most k; 4 if none is.
 fn passed(table: &[u64], i: usize, key: u64) -> usize
@@ -38,26 +31,19 @@ fn passed(table: &[u64], i: usize, key: u64) -> usize
 }
 
 // Whether sixteen entries below i are there, the lowest entry apart, and their first keys are all above k.
+#[tactic(auto, using(std::proofs::lemmas::Bool::Decides::nat_tests), unfolding(crate::specs::Descent::sixteen_of))]
 fn sixteen_above(table: &[u64], i: usize, key: u64) -> bool
     requires { Rows table.now i }
     ensures { result ≡ sixteen_of table.now i key }
 {
-    if i <= 16 {
-        return false;
-    }
-    if passed(table, i, key) < 4 {
-        return false;
-    }
-    if passed(table, i - 4, key) < 4 {
-        return false;
-    }
-    if passed(table, i - 8, key) < 4 {
-        return false;
-    }
-    4 <= passed(table, i - 12, key)
+    16 < i
+        && 4 <= passed(table, i, key)
+        && 4 <= passed(table, i - 4, key)
+        && 4 <= passed(table, i - 8, key)
+        && 4 <= passed(table, i - 12, key)
 }
 
-// The walk down from s, sixteen entries at a time: one test of the end serves for sixteen.
+// The walk down from s, sixteen entries at a time: one test of the end serves for sixteen, and so it counts by hand.
 fn leap(table: &[u64], s: usize, key: u64) -> usize
     requires { Rows table.now s }
     ensures { Descended table.now s key result }
@@ -74,9 +60,7 @@ fn last_few(table: &[u64], i: usize, key: u64) -> usize
     requires { Rows table.now i }
     ensures { result ≡ chosen_of table.now i key }
 {
-    let mut j = i;
-    while 1 < j {
-        j -= 1;
+    for j in (1..i).rev() {
         if table[5 * j] <= key {
             return j;
         }
@@ -85,7 +69,7 @@ fn last_few(table: &[u64], i: usize, key: u64) -> usize
 }
 
 // The greatest i whose first key is at most k, 0 if there is none. On any table, sorted or not, so it walks down: sixteen entries at a
-// time, then four.
+// time, then four, and so it counts by hand.
 pub fn choose(table: &[u64], s: usize, k: Key) -> usize
     requires { Rows table.now s }
     ensures { result ≡ chosen_of table.now s k.0 }
@@ -103,6 +87,7 @@ pub fn choose(table: &[u64], s: usize, k: Key) -> usize
 }
 
 // The same. One segment needs no walk; the walk is lent its entries alone, so that nothing is set down for a call that is not made.
+#[tactic(auto, using(crate::proofs::Descent::some_cases))]
 fn choose_some(table: &[u64], s: usize, k: Key) -> usize
     requires { Rows table.now s }
     ensures { result ≡ chosen_of table.now s k.0 }
@@ -110,19 +95,20 @@ fn choose_some(table: &[u64], s: usize, k: Key) -> usize
     if s < 2 {
         return 0;
     }
-    let end = 5 * s;
-    choose(&table[0..end], s, k)
+    choose(&table[..5 * s], s, k)
 }
 
-// The segment that k chooses: all that lookup and insert know of the table.
-pub fn pick_segment(z: Sizes, table: &[u64], k: Key) -> Picked
+// The segment that k chooses, with its entry, or that this entry is damaged: all that lookup and insert know of the table.
+#[tactic(auto, using(crate::proofs::Laws::pick_cases))]
+pub fn pick_segment(z: Sizes, table: &[u64], k: Key) -> Result<(usize, Entry), Refusal>
     requires { Row table.now z.s 0 }
     ensures { result ≡ picked_of z table.now k.0 }
 {
     let i = choose_some(table, z.s, k);
     let x = table::entry_at(z, table, i);
     if table::damaged(z, x) {
-        return Picked::Wrong(i);
+        Err(Refusal::StoreWrong(i))
+    } else {
+        Ok((i, x))
     }
-    Picked::Sound(i, x)
 }

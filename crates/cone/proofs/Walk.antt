@@ -1,6 +1,7 @@
 -- A walk over the keys of a list with a cone for the open segment. The keys are handed in one by one, each with the equation that it is
 -- the list's next, so the list itself need not be written out anywhere.
 -- Assumes nothing.
+use Rattle.std.specs.Prelude.{Option, Some, None}
 use mathlib.Core.Path.{◌≡◌, refl, sym, ap, ◌∙◌}
 use mathlib.Core.Bool.{true, false}
 use mathlib.Core.List.{List, [], ◌∷◌}
@@ -14,8 +15,6 @@ use Rattle.terms.specs.Limits.{e_most, cut_most}
 use Rattle.terms.specs.Keys.{IsKey}
 use Rattle.terms.proofs.Keys.{rising_key, rising_lt}
 use Rattle.cone.specs.declared.Cone.{Cone}
-use Rattle.cone.specs.declared.Step.{Step}
-use Rattle.cone.specs.declared.Step.TheVariants.{Joined, Apart}
 use Rattle.cone.specs.Rule.{far, joins, Segment, segment_of, cut_from, cut}
 use Rattle.cone.specs.Step.{Ready, start_of, grown, lets, step_of}
 use Rattle.cone.specs.Keys.{Cuttable}
@@ -82,17 +81,17 @@ module _ {e : ℕ} {ks : List ℕ} {i j : ℕ} {c : Cone} (w : Open e ks i j c) 
         }
 
     -- what a step answered: the key joins by the rule, and the cone stands for one key more
-    pub open_joins : {s : Step} {d : Cone} → s ≡ step_of e c key → s ≡ Joined d → joins e ks i c.count ≡ true
+    pub open_joins : {s : Option Cone} {d : Cone} → s ≡ step_of e c key → s ≡ Some d → joins e ks i c.count ≡ true
     open_joins is q = sym joins_is ∙ (step_joined e c key is q).0
 
-    pub open_count : {s : Step} {d : Cone} → s ≡ step_of e c key → s ≡ Joined d → d.count ≡ c.count + 1
+    pub open_count : {s : Option Cone} {d : Cone} → s ≡ step_of e c key → s ≡ Some d → d.count ≡ c.count + 1
     open_count {s} {d} is q = ap (λ (d : Cone). d.count) (step_joined e c key is q).1
 
-    pub open_joined : {s : Step} {d : Cone} → s ≡ step_of e c key → s ≡ Joined d → Open e ks i (j + 1) d
+    pub open_joined : {s : Option Cone} {d : Cone} → s ≡ step_of e c key → s ≡ Some d → Open e ks i (j + 1) d
     open_joined {s} {d} is q = let t : d ≡ grown e c key = (step_joined e c key is q).1 in rw t grows
 
     -- or it does not, and starts the next segment
-    pub open_apart : {s : Step} → s ≡ step_of e c key → s ≡ Apart → joins e ks i c.count ≡ false
+    pub open_apart : {s : Option Cone} → s ≡ step_of e c key → s ≡ None → joins e ks i c.count ≡ false
     open_apart is q = sym joins_is ∙ step_apart e c key is q
 
 -- ---- counting segments: n are closed, one is open, and the rest of the cut is the cut from there
@@ -104,7 +103,7 @@ module _ {e : ℕ} {ks : List ℕ} {n i j : ℕ} {c : Cone} {key : ℕ} (w : Wal
   pub walk_ready : e ≤ e_most → length ks ≤ cut_most → Ready e c (record { 0 = key })
   walk_ready bound few = open_ready w.segment next bound few
 
-  pub walk_joined : {s : Step} {d : Cone} → s ≡ step_of e c key → s ≡ Joined d → Walk e ks n i (j + 1) d
+  pub walk_joined : {s : Option Cone} {d : Cone} → s ≡ step_of e c key → s ≡ Some d → Walk e ks n i (j + 1) d
   walk_joined {s} {d} is q =
       let more : j < length ks = next.more in
       let one : d.count ≡ suc c.count = open_count w.segment next is q ∙ add-one c.count in
@@ -114,7 +113,7 @@ module _ {e : ℕ} {ks : List ℕ} {n i j : ℕ} {c : Cone} {key : ℕ} (w : Wal
         rest = λ r p. w.rest (suc r) (omega arith) ∙ cut_joined e ks i c.count r (open_joins w.segment next is q) ∙ ap (λ (m : ℕ). cut_from e ks i m r) (sym one);
       }
 
-  pub walk_apart : {s : Step} → s ≡ step_of e c key → s ≡ Apart → Walk e ks (n + 1) j (j + 1) (start_of e key)
+  pub walk_apart : {s : Option Cone} → s ≡ step_of e c key → s ≡ None → Walk e ks (n + 1) j (j + 1) (start_of e key)
   walk_apart is q =
       record {
         segment = open_start e ks j next.more next.is;

@@ -1,4 +1,5 @@
 -- One step of the cone, on natural numbers: two fractions stand for all the earlier keys. That it decides the rule is a law.
+use Rattle.std.specs.Prelude.{Option, Some, None}
 use Rattle.std.specs.Prelude.{◌≡◌, Bool, ℕ, ◌+◌, ◌-◌, ◌*◌, ◌≤◌, ◌<◌, leb, ltb}
 use Rattle.lists.specs.Tests.{pick, both}
 use Rattle.terms.specs.declared.Key.{Key}
@@ -6,8 +7,6 @@ use Rattle.terms.specs.Limits.{key_limit, e_most, cut_most, key_of}
 use Rattle.terms.specs.Keys.{IsKey}
 use Rattle.cone.specs.declared.Frac.{Frac}
 use Rattle.cone.specs.declared.Cone.{Cone}
-use Rattle.cone.specs.declared.Step.{Step}
-use Rattle.cone.specs.declared.Step.TheVariants.{Joined, Apart}
 
 -- what a step asks: the numbers of the cone are small, and the key comes after the origin
 pub record Ready (e : ℕ) (c : Cone) (key : Key) : Type 0 where
@@ -62,5 +61,5 @@ lets c key =
     both (leb (c.flat.top * c.count) ((key - c.origin.0) * c.flat.bottom))
     (leb (c.steep.top * (key - c.origin.0)) (c.count * c.steep.bottom))
 
-unfoldable pub step_of : ℕ → Cone → ℕ → Step
-step_of e c key = pick (lets c key) (Joined (grown e c key)) Apart
+unfoldable pub step_of : ℕ → Cone → ℕ → Option Cone
+step_of e c key = pick (lets c key) (Some (grown e c key)) None

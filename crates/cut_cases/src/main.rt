@@ -1,7 +1,7 @@
 // The program's library on the inputs that are easy to get wrong; what it puts out is compared with the file `stdout`.
 #![tactic(auto)]
 
-ghost use Rattle.std.specs.Prelude.{◌<◌, ◌≤◌};
+ghost use Rattle.std.specs.Prelude.{◌≤◌};
 
 fn show(text: &[u8]) {
     let mut out = [0u8; 53880];
@@ -11,52 +11,20 @@ fn show(text: &[u8]) {
 
 // A digit of a number, as a byte.
 fn digit(x: usize) -> u8 {
-    48 + (x % 10) as u8
+    b'0' + (x % 10) as u8
 }
 
-// Line i of the keys 1000, 1001, ..: five bytes from 5 on.
-fn put_line(text: &mut [u8; 2600], i: usize)
-    requires { i < 515 }
-{
-    let at = 5 + 5 * i;
-    text[at] = 49;
-    text[at + 1] = digit(i / 100);
-    text[at + 2] = digit(i / 10);
-    text[at + 3] = digit(i);
-    text[at + 4] = 10;
-}
-
-fn put_odd(text: &mut [u8; 2600], at: usize, odd: u8)
-    requires { at < 2600 }
-{
-    text[at] = odd;
-}
-
-fn show_front(text: [u8; 2600], end: usize)
-    requires { end ≤ 2600 }
-{
-    show(&text[..end]);
-}
-
-// e = 16, B = 4 and `count` keys, up to the byte `end`; `odd` is put in the place of the last byte but one.
+// e = 16, B = 4 and `count` of the keys 1000, 1001, .., up to the byte `end`; `odd` is put in the place of the last byte but one.
 fn show_many(count: usize, end: usize, odd: u8)
     requires { (2 ≤ end) × (end ≤ 2600) }
 {
     let mut text = [0u8; 2600];
-    text[0] = 49;
-    text[1] = 54;
-    text[2] = 10;
-    text[3] = 52;
-    text[4] = 10;
-    let mut i: usize = 0;
-    while i < count {
-        if i < 515 {
-            put_line(&mut text, i);
-        }
-        i += 1;
+    text[..5].copy_from_slice(b"16\n4\n");
+    for (i, line) in text[5..].chunks_exact_mut(5).take(count).enumerate() {
+        line.copy_from_slice(&[b'1', digit(i / 100), digit(i / 10), digit(i), b'\n']);
     }
-    put_odd(&mut text, end - 2, odd);
-    show_front(text, end);
+    text[end - 2] = odd;
+    show(&text[..end]);
 }
 
 // Lines that are missing, or that are no line.
@@ -130,9 +98,9 @@ fn main() {
     worked_runs();
     rooms();
     // 512 keys; a 513th, sound; a 513th, malformed; a 513th with no newline; malformed after the 513th
-    show_many(512, 2565, 49);
-    show_many(513, 2570, 50);
-    show_many(513, 2570, 120);
-    show_many(513, 2569, 50);
-    show_many(514, 2575, 120);
+    show_many(512, 2565, b'1');
+    show_many(513, 2570, b'2');
+    show_many(513, 2570, b'x');
+    show_many(513, 2569, b'2');
+    show_many(514, 2575, b'x');
 }

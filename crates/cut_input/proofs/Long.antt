@@ -1,5 +1,7 @@
 -- A start list is decided by its first 15 bytes for each line that it may have, the one key too many among them.
 -- Assumes nothing.
+use Rattle.std.specs.Prelude.{Result}
+use Rattle.terms.specs.declared.Refusal.{Refusal}
 use mathlib.Core.Path.{◌≡◌, refl, ap}
 use mathlib.Core.List.{List, ◌∷◌}
 use Prim.Native.Nat.{ℕ, zero, suc, ◌+◌, ◌*◌, ◌≤◌}
@@ -9,12 +11,11 @@ use Rattle.text.specs.declared.Line.{Line}
 use Rattle.text.specs.declared.Line.TheVariants.{Number, Bad, End}
 use Rattle.text.specs.Lines.{line_at}
 use Rattle.text.proofs.Long.{line_cut, line_near}
-use Rattle.cut_input.specs.declared.Keys.{Keys}
 use Rattle.cut_input.specs.declared.Listed.{Listed}
 use Rattle.cut_input.specs.StartList.{key_or, keys_of, value_or, values_of, number_or, counted, after_b, after_e, listed_of, given_after_e, given_of}
 
 -- what goes on after a number may be replaced by what is the same there
-key_same : (l : Line) (k : ℕ) (f g : ℕ → ℕ → Keys) → ((v next : ℕ) → l ≡ Number v next → f v next ≡ g v next) → key_or l k f ≡ key_or l k g
+key_same : (l : Line) (k : ℕ) (f g : ℕ → ℕ → Result ℕ Refusal) → ((v next : ℕ) → l ≡ Number v next → f v next ≡ g v next) → key_or l k f ≡ key_or l k g
 key_same End k f g h = refl
 key_same Bad k f g h = refl
 key_same (Number v next) k f g h = h v next refl
@@ -24,7 +25,7 @@ value_same End f g h = refl
 value_same Bad f g h = refl
 value_same (Number v next) f g h = h v next refl
 
-number_same : (l : Line) (k : ℕ) (f g : ℕ → ℕ → Listed) → ((v next : ℕ) → l ≡ Number v next → f v next ≡ g v next) → number_or l k f ≡ number_or l k g
+number_same : (l : Line) (k : ℕ) (f g : ℕ → ℕ → Result Listed Refusal) → ((v next : ℕ) → l ≡ Number v next → f v next ≡ g v next) → number_or l k f ≡ number_or l k g
 number_same End k f g h = refl
 number_same Bad k f g h = refl
 number_same (Number v next) k f g h = h v next refl

@@ -55,9 +55,8 @@ pub record Named (out : List ℕ) (at : ℕ) (word : List ℕ) : Type 0 where
   pub short : length word ≤ 8
   pub room : at + 29 ≤ length out
 
-pub record Cells (out : List ℕ) (at : ℕ) (table : List ℕ) (count : ℕ) : Type 0 where
-  pub held : count ≤ length table
-  pub room : at + 21 * count ≤ length out
+pub record Cells (out : List ℕ) (at : ℕ) (table : List ℕ) : Type 0 where
+  pub room : at + 21 * length table ≤ length out
 
 pub record Report (out : List ℕ) (s : ℕ) (table : List ℕ) : Type 0 where
   pub few : s ≤ s_most

@@ -3,69 +3,122 @@
 
 ghost use Rattle.std.specs.Prelude.{◌≡◌, ◌+◌, ◌*◌, ◌≤◌, [], ◌∷◌, length};
 ghost use Rattle.lists.specs.Over.{over};
-ghost use Rattle.cut_output.specs.Report.{Named, Cells, Report, field_of, closing_of, named_of, last_of, keys_segments, bound_buffer, counts_of, cells_of, report_of, refusal_of};
+ghost use Rattle.text.specs.Decimal.{decimal_of};
+ghost use Rattle.cut_output.specs.Report.{Named, Cells, Report, closing_of, named_of, counts_of, cells_of, report_of, refusal_of};
 
-use terms::Refusal;
-
-fn put_byte(out: &mut [u8], at: usize, c: u8) -> usize
-    requires { at + 1 ≤ length out.old }
-    ensures past { result ≡ at + 1 }
-    ensures written { out.new ≡ over out.old at (c ∷ []) }
-{
-    out[at] = c;
-    at + 1
-}
-
-// The bytes of a word.
-fn put_word(out: &mut [u8], at: usize, word: &[u8]) -> usize
-    requires { at + length word.now ≤ length out.old }
-    ensures past { result ≡ at + length word.now }
-    ensures written { out.new ≡ over out.old at word.now }
-{
-    let mut i: usize = 0;
-    while i < word.len() {
-        let p = at + i;
-        out[p] = word[i];
-        i += 1;
-    }
-    at + i
-}
+use terms::{Refusal, Sizes};
 
 // The byte after a cell: five to a line.
+#[tactic(auto, using(crate::proofs::Laws::closing_cases))]
 fn closing(p: usize) -> u8
     ensures { result ≡ closing_of p }
 {
-    if p % 5 == 4 { 10 } else { 32 }
+    if p % 5 == 4 { b'\n' } else { b' ' }
 }
 
-// A number and the byte after it.
-fn put_field(out: &mut [u8], at: usize, x: u64, closing: u8) -> usize
-    requires { at + 21 ≤ length out.old }
-    ensures past { result ≡ at + length (field_of x closing) }
-    ensures written { out.new ≡ over out.old at (field_of x closing) }
-{
-    let past = text::put_number(out, at, x);
-    put_byte(out, past, closing)
+// The bytes that are written to, and the place past those that are written.
+#[derive(Drop)]
+struct Sheet<'a> {
+    out: &'a mut [u8],
+    at: usize,
 }
 
-// A word and the number after it.
-fn put_named(out: &mut [u8], at: usize, word: &[u8], x: u64) -> usize
-    requires { Named out.old at word.now }
-    ensures past { result ≡ at + length (named_of word.now x) }
-    ensures written { out.new ≡ over out.old at (named_of word.now x) }
-{
-    let past = put_word(out, at, word);
-    text::put_number(out, past, x)
-}
+impl<'a> Sheet<'a> {
+    // The bytes of a word.
+    fn word(&mut self, word: &[u8])
+        requires { self.old.at + length word.now ≤ length self.old.out.now }
+        ensures same { self.new.out.ghost_name ≡ self.old.out.ghost_name }
+        ensures past { self.new.at ≡ self.old.at + length word.now }
+        ensures written { self.new.out.now ≡ over self.old.out.now self.old.at word.now }
+    {
+        let past = self.at + word.len();
+        self.out[self.at..past].copy_from_slice(word);
+        self.at = past;
+    }
 
-// The same, and the end of the line.
-fn put_last(out: &mut [u8], at: usize, word: &[u8], x: u64) -> usize
-    requires { Named out.old at word.now }
-    ensures past { result ≡ at + length (last_of word.now x) }
-    ensures written { out.new ≡ over out.old at (last_of word.now x) }
-{
-    let past = put_named(out, at, word, x);
-    put_byte(out, past, 10)
+    // A number's digits.
+    fn number(&mut self, x: u64)
+        requires { self.old.at + 20 ≤ length self.old.out.now }
+        ensures same { self.new.out.ghost_name ≡ self.old.out.ghost_name }
+        ensures past { self.new.at ≡ self.old.at + length (decimal_of x) }
+        ensures written { self.new.out.now ≡ over self.old.out.now self.old.at (decimal_of x) }
+    {
+        self.at = text::put_number(self.out, self.at, x);
+    }
+
+    // A byte.
+    fn byte(&mut self, c: u8)
+        requires { self.old.at + 1 ≤ length self.old.out.now }
+        ensures same { self.new.out.ghost_name ≡ self.old.out.ghost_name }
+        ensures past { self.new.at ≡ self.old.at + 1 }
+        ensures written { self.new.out.now ≡ over self.old.out.now self.old.at (c ∷ []) }
+    {
+        self.out[self.at] = c;
+        self.at += 1;
+    }
+
+    // A word and the number after it.
+    fn named(&mut self, word: &[u8], x: u64)
+        requires { Named self.old.out.now self.old.at word.now }
+        ensures same { self.new.out.ghost_name ≡ self.old.out.ghost_name }
+        ensures past { self.new.at ≡ self.old.at + length (named_of word.now x) }
+        ensures written { self.new.out.now ≡ over self.old.out.now self.old.at (named_of word.now x) }
+    {
+        self.word(word);
+        self.number(x);
+    }
+
+    // `n=6 s=2 e=1 b=2`, and the end of the line.
+    fn counts(&mut self, z: Sizes)
+        requires { self.old.at + 120 ≤ length self.old.out.now }
+        ensures same { self.new.out.ghost_name ≡ self.old.out.ghost_name }
+        ensures past { self.new.at ≡ self.old.at + length (counts_of z.n z.s z.e z.b) }
+        ensures written { self.new.out.now ≡ over self.old.out.now self.old.at (counts_of z.n z.s z.e z.b) }
+    {
+        self.named(b"n=", z.n as u64);
+        self.named(b" s=", z.s as u64);
+        self.named(b" e=", z.e as u64);
+        self.named(b" b=", z.b as u64);
+        self.byte(b'\n');
+    }
+
+    // The cells of the table's entries, five to a line.
+    fn cells(&mut self, table: &[u64])
+        requires { Cells self.old.out.now self.old.at table.now }
+        ensures same { self.new.out.ghost_name ≡ self.old.out.ghost_name }
+        ensures past { self.new.at ≡ self.old.at + length (cells_of table.now 0 (length table.now)) }
+        ensures written { self.new.out.now ≡ over self.old.out.now self.old.at (cells_of table.now 0 (length table.now)) }
+    {
+        for (p, x) in table.iter().enumerate() {
+            self.number(*x);
+            self.byte(closing(p));
+        }
+    }
+
+    // The counts, and a line for each segment.
+    fn report(&mut self, z: Sizes, table: &[u64])
+        requires blank { self.old.at ≡ 0 }
+        requires asked { Report self.old.out.now z.s table.now }
+        ensures same { self.new.out.ghost_name ≡ self.old.out.ghost_name }
+        ensures past { self.new.at ≡ length (report_of z.n z.s z.e z.b table.now) }
+        ensures written { self.new.out.now ≡ over self.old.out.now 0 (report_of z.n z.s z.e z.b table.now) }
+    {
+        self.counts(z);
+        self.cells(&table[..5 * z.s]);
+    }
+
+    // `refused 3 at 4`, and the end of the line.
+    fn refusal(&mut self, r: Refusal)
+        requires blank { self.old.at ≡ 0 }
+        requires room { 60 ≤ length self.old.out.now }
+        ensures same { self.new.out.ghost_name ≡ self.old.out.ghost_name }
+        ensures past { self.new.at ≡ length (refusal_of r) }
+        ensures written { self.new.out.now ≡ over self.old.out.now 0 (refusal_of r) }
+    {
+        self.named(b"refused ", terms::number(r));
+        self.named(b" at ", terms::place(r) as u64);
+        self.byte(b'\n');
+    }
 }
 
 // `refused 3 at 4`
@@ -74,63 +127,18 @@ pub fn put_refusal(out: &mut [u8], r: Refusal) -> usize
     ensures past { result ≡ length (refusal_of r) }
     ensures written { out.new ≡ over out.old 0 (refusal_of r) }
 {
-    let number = terms::number(r);
-    let place = terms::place(r) as u64;
-    let past = put_named(out, 0, b"refused ", number);
-    put_last(out, past, b" at ", place)
-}
-
-// `n=6 s=2`
-fn put_keys_segments(out: &mut [u8], n: usize, s: usize) -> usize
-    requires { 120 ≤ length out.old }
-    ensures past { result ≡ length (keys_segments n s) }
-    ensures written { out.new ≡ over out.old 0 (keys_segments n s) }
-{
-    let past = put_named(out, 0, b"n=", n as u64);
-    put_named(out, past, b" s=", s as u64)
-}
-
-// ` e=1 b=2`, and the end of the line
-fn put_bound_buffer(out: &mut [u8], at: usize, e: usize, b: usize) -> usize
-    requires { at + 60 ≤ length out.old }
-    ensures past { result ≡ at + length (bound_buffer e b) }
-    ensures written { out.new ≡ over out.old at (bound_buffer e b) }
-{
-    let past = put_named(out, at, b" e=", e as u64);
-    put_last(out, past, b" b=", b as u64)
-}
-
-// `n=6 s=2 e=1 b=2`
-fn put_counts(out: &mut [u8], n: usize, s: usize, e: usize, b: usize) -> usize
-    requires { 120 ≤ length out.old }
-    ensures past { result ≡ length (counts_of n s e b) }
-    ensures written { out.new ≡ over out.old 0 (counts_of n s e b) }
-{
-    let past = put_keys_segments(out, n, s);
-    put_bound_buffer(out, past, e, b)
-}
-
-// The cells of the table's entries, five to a line.
-fn put_cells(out: &mut [u8], at: usize, table: &[u64], count: usize) -> usize
-    requires { Cells out.old at table.now count }
-    ensures past { result ≡ at + length (cells_of table.now 0 count) }
-    ensures written { out.new ≡ over out.old at (cells_of table.now 0 count) }
-{
-    let mut p: usize = 0;
-    let mut past = at;
-    while p < count {
-        past = put_field(out, past, table[p], closing(p));
-        p += 1;
-    }
-    past
+    let mut sheet = Sheet { out, at: 0 };
+    sheet.refusal(r);
+    sheet.at
 }
 
 // The counts, and a line for each segment.
-pub fn put_report(out: &mut [u8], n: usize, s: usize, e: usize, b: usize, table: &[u64]) -> usize
-    requires { Report out.old s table.now }
-    ensures past { result ≡ length (report_of n s e b table.now) }
-    ensures written { out.new ≡ over out.old 0 (report_of n s e b table.now) }
+pub fn put_report(out: &mut [u8], z: Sizes, table: &[u64]) -> usize
+    requires { Report out.old z.s table.now }
+    ensures past { result ≡ length (report_of z.n z.s z.e z.b table.now) }
+    ensures written { out.new ≡ over out.old 0 (report_of z.n z.s z.e z.b table.now) }
 {
-    let past = put_counts(out, n, s, e, b);
-    put_cells(out, past, table, 5 * s)
+    let mut sheet = Sheet { out, at: 0 };
+    sheet.report(z, table);
+    sheet.at
 }

@@ -1,5 +1,6 @@
 -- The cases of the loops: over the keys of one segment, and from segment to segment, alone and with the table that is filled.
 -- Assumes nothing.
+use Rattle.std.specs.Prelude.{Option, Some, None}
 use mathlib.Core.Path.{◌≡◌, refl, sym, ap, ◌∙◌}
 use mathlib.Core.List.{List, ◌∷◌, ◌++◌}
 use Prim.Native.Nat.{ℕ, suc, ◌+◌, ◌-◌, ◌*◌, ◌≤◌, ◌<◌}
@@ -13,8 +14,6 @@ use borrow.Author.Tests.{eq-eqb, ne_eqb, ltb-true, ltb-false}
 use Rattle.lists.proofs.Tests.{either}
 use Rattle.terms.proofs.Keys.{rising_lt}
 use Rattle.cone.specs.declared.Cone.{Cone}
-use Rattle.cone.specs.declared.Step.{Step}
-use Rattle.cone.specs.declared.Step.TheVariants.{Joined, Apart}
 use Rattle.cone.specs.Rule.{Segment, segment_of, cut}
 use Rattle.cone.specs.Step.{Ready, start_of, step_of}
 use Rattle.cone.specs.Keys.{Cuttable}
@@ -54,7 +53,7 @@ module _ {e : ℕ} {ks : List ℕ} {j : ℕ} {c : Cone} (w : Sizing e ks j c) wh
   pub size_ready : j < length ks → Ready e c (record { 0 = get_or ks j 0 })
   size_ready more = open_ready w.segment (next more) w.keys.bound w.keys.few
 
-  pub size_on : {s : Step} {d : Cone} → j < length ks → s ≡ step_of e c (get_or ks j 0) → s ≡ Joined d → Sizing e ks (j + 1) d
+  pub size_on : {s : Option Cone} {d : Cone} → j < length ks → s ≡ step_of e c (get_or ks j 0) → s ≡ Some d → Sizing e ks (j + 1) d
   size_on {s} {d} more is q =
       let one : d.count ≡ suc c.count = open_count w.segment (next more) is q ∙ add-one c.count in
       record {
@@ -65,7 +64,7 @@ module _ {e : ℕ} {ks : List ℕ} {j : ℕ} {c : Cone} (w : Sizing e ks j c) wh
             ∙ ap (λ (m : ℕ). size_from e ks 0 m r) (sym one);
       }
 
-  pub size_here : {s : Step} → j < length ks → s ≡ step_of e c (get_or ks j 0) → s ≡ Apart → j ≡ size_of e ks 0
+  pub size_here : {s : Option Cone} → j < length ks → s ≡ step_of e c (get_or ks j 0) → s ≡ None → j ≡ size_of e ks 0
   size_here more is q =
       sym
       (w.rest (suc (length ks - (j + 1))) (omega arith)
@@ -258,13 +257,16 @@ module _ {e : ℕ} {ks : List ℕ} {from : ℕ} {t : List ℕ} {m i n : ℕ} {ta
     at_last : n + 1 ≡ length (cut e ks)
     at_last = omega (arith, f.known, f.below, over)
 
-    pub last_room : Room ks i (length ks - i) from table n
-    last_room = room_asks f.writing keys_left (last_lent f.writing.count at_last)
+    here : m - 1 ≡ n
+    here = omega (arith, f.below, over)
 
-    pub last_done : {table' : List ℕ} → table' ≡ sets table (5 * n) (row_of from (segment_of ks i (length ks - i))) → table' ≡ rows_of from (cut e ks) ++ drop (5 * m) t
+    pub last_room : Room ks i (length ks - i) from table (m - 1)
+    last_room = rw here (room_asks f.writing keys_left (last_lent f.writing.count at_last))
+
+    pub last_done : {table' : List ℕ} → table' ≡ sets table (5 * (m - 1)) (row_of from (segment_of ks i (length ks - i))) → table' ≡ rows_of from (cut e ks) ++ drop (5 * m) t
     last_done wrote =
         let same : n + 1 ≡ m = at_last ∙ sym f.known in
-        write_end (write_on f.writing keys_left (last_lent f.writing.count at_last) wrote) (omega arith)
+        write_end (write_on f.writing keys_left (last_lent f.writing.count at_last) (rw here at wrote)) (omega arith)
         ∙ ap (λ (l : ℕ). rows_of from (cut e ks) ++ drop (5 * l) t) same
 
 pub ruleset known_cases = (known_some, known_start, known_inside, known_asks, lent_counts, known_room, known_fits, known_on, last_room, last_done)

@@ -8,7 +8,7 @@ ghost use Rattle.cone.specs.Keys.{Cuttable};
 ghost use Rattle.cutting.specs.Rows.{row_of, rows_of, Stretch, Room, Writable, Known};
 ghost use Rattle.cutting.specs.Ends.{size_of, Startable};
 
-use cone::{Cone, Step};
+use cone::Cone;
 use terms::Key;
 
 // How many keys the segment that starts at the first key has. This is the loop over the keys, so it keeps nothing but the cone, and it
@@ -19,23 +19,17 @@ fn first_size(e: usize, keys: &[u64]) -> usize
 {
     let bound = e as u64;
     let mut cone = Cone::start(bound, Key(keys[0]));
-    let mut j: usize = 1;
-    while j < keys.len() {
-        let next = cone.step(bound, Key(keys[j]));
-        match next {
-            Step::Joined(c) => {
-                cone = c;
-                j += 1;
-            }
-            Step::Apart => {
-                return j;
-            }
-        }
+    for j in 1..keys.len() {
+        let Some(next) = cone.step(bound, Key(keys[j])) else {
+            return j;
+        };
+        cone = next;
     }
-    j
+    keys.len()
 }
 
-// How many segments the cut of the keys has.
+// How many segments the cut of the keys has. The loops that go from segment to segment step by as many keys as the segment has, so they count by
+// hand.
 pub fn count_segments(e: usize, keys: &[u64]) -> usize
     requires { Cuttable e keys.now }
     ensures { result ≡ length (cut e keys.now) }
@@ -51,14 +45,16 @@ pub fn count_segments(e: usize, keys: &[u64]) -> usize
 }
 
 // The run of a closed segment of c keys: one key runs over 1.
+#[tactic(auto, using(crate::proofs::Laws::run_cases))]
 fn run_of(keys: &[u64], i: usize, c: usize) -> u64
     requires { Stretch keys.now i c }
     ensures { result ≡ (segment_of keys.now i c).run }
 {
     if c == 1 {
-        return 1;
+        1
+    } else {
+        keys[i + (c - 1)] - keys[i]
     }
-    keys[i + (c - 1)] - keys[i]
 }
 
 // Writes the five numbers of a closed segment of c keys as row n of the table.
@@ -75,7 +71,9 @@ fn close(keys: &[u64], i: usize, c: usize, from: usize, table: &mut [u64], n: us
     table[at + 4] = 0;
 }
 
-// Writes the entries of the cut, in order from the table's start, each base counted from `from`, and says how many they are.
+// Writes the entries of the cut, in order from the table's start, each base counted from `from`, and says how many they are. It is not one
+// function with the count above, by a closure for what each segment is for: what such a closure has written would have to be told from call to call,
+// which is longer than these lines.
 pub fn write_segments(e: usize, keys: &[u64], from: usize, table: &mut [u64]) -> usize
     requires { Writable e keys.now from table.old }
     ensures counted { result ≡ length (cut e keys.now) }
@@ -100,13 +98,10 @@ pub fn write_known(e: usize, keys: &[u64], from: usize, table: &mut [u64], t: us
 {
     let last = t - 1;
     let mut i: usize = 0;
-    let mut n: usize = 0;
-    while n < last {
+    for n in 0..last {
         let c = first_size(e, &keys[i..]);
         close(keys, i, c, from, table, n);
         i += c;
-        n += 1;
     }
-    let left = keys.len() - i;
-    close(keys, i, left, from, table, n);
+    close(keys, i, keys.len() - i, from, table, last);
 }

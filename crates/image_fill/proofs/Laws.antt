@@ -1,5 +1,6 @@
 -- The cases of the filling functions.
 -- Assumes nothing.
+use Rattle.std.specs.Prelude.{Ok}
 use mathlib.Core.Path.{◌≡◌, refl, sym, ap, ◌∙◌, subst}
 use mathlib.Core.List.{List, [], ◌∷◌, ◌++◌}
 use Prim.Native.Nat.{ℕ, zero, suc, ◌+◌, ◌-◌, ◌*◌, ◌≤◌, ◌<◌}
@@ -15,7 +16,6 @@ use Rattle.terms.specs.Limits.{b_most, s_most}
 use Rattle.lists.specs.Over.{over, Space, Writing}
 use Rattle.lists.proofs.Over.{set_over, writing_start, writing_step, writing_end, length_over}
 use Rattle.image_little.specs.Little.{get_at}
-use Rattle.image_records.specs.declared.Walked.TheVariants.{Past}
 use Rattle.image_records.specs.Records.{shape, many_at, fields_at, record_at, kind_of, after_of, total}
 use Rattle.image_records.specs.Images.{layout_of, held_at, part_of, parts_of, part_at, after_part, parts_at, head_at, image_at}
 use Rattle.image_records.specs.First.{first}
@@ -171,9 +171,9 @@ module _ (l : List ℕ) (b p : ℕ) where
   record Stood (s last : ℕ) : Type 0 where
     pub inside : after_part first l p ≤ length l
     pub few : held_at (layout_of first) l p < b
-    pub rest : parts_of (layout_of first) b l s (after_part first l p) ≡ Past last
+    pub rest : parts_of (layout_of first) b l s (after_part first l p) ≡ Ok last
 
-  stood : (s last : ℕ) → parts_of (layout_of first) b l (suc s) p ≡ Past last → Stood s last
+  stood : (s last : ℕ) → parts_of (layout_of first) b l (suc s) p ≡ Ok last → Stood s last
   unfolding parts_of
   stood s last e =
       then_past (part_of (layout_of first) b l p) (λ m. parts_of (layout_of first) b l s m) last e
@@ -202,7 +202,7 @@ module _ (l : List ℕ) (at b : ℕ) (t₀ bs₀ : List ℕ) (s : ℕ) where
       one = omega arith
 
       here : Stood l b p (left - 1) w.last
-      here = stood l b p (left - 1) w.last (subst (λ (k : ℕ). parts_of (layout_of first) b l k p ≡ Past w.last) one w.judged)
+      here = stood l b p (left - 1) w.last (subst (λ (k : ℕ). parts_of (layout_of first) b l k p ≡ Ok w.last) one w.judged)
 
       pub piece_asks : PiecesFill l at b t₀ bs₀ s → PieceFill l p b t bs i
       piece_asks r =

@@ -1,11 +1,11 @@
 -- What the steps of the filling pass ask. What they put over the cells is what the form says of the bytes (image_records).
+use Rattle.std.specs.Prelude.{Ok}
 use Rattle.std.specs.Prelude.{◌≡◌, List, ℕ, ◌+◌, ◌*◌, ◌≤◌, ◌<◌, length}
 use Rattle.terms.specs.declared.Sizes.{Sizes}
 use Rattle.terms.specs.Limits.{b_most, s_most}
 use Rattle.lists.specs.Over.{Writing}
 use Rattle.table.specs.Store.{store_of}
 use Rattle.table.specs.Limits.{Limits}
-use Rattle.image_records.specs.declared.Walked.TheVariants.{Past}
 use Rattle.image_records.specs.Images.{layout_of, held_at, parts_of, after_part, parts_at, image_at}
 use Rattle.image_records.specs.First.{first}
 use Rattle.image_records.specs.Stores.{rows_of, slots_by, head_sizes}
@@ -30,7 +30,7 @@ pub record PieceFill (bytes : List ℕ) (at b : ℕ) (table buffers : List ℕ) 
 -- all the segments: the judging pass came past them
 pub record PiecesFill (bytes : List ℕ) (at b : ℕ) (table buffers : List ℕ) (s : ℕ) : Type 0 where
   pub last : ℕ
-  pub judged : parts_of (layout_of first) b bytes s at ≡ Past last
+  pub judged : parts_of (layout_of first) b bytes s at ≡ Ok last
   pub rows : 5 * s ≤ length table
   pub few : s ≤ s_most
   pub small : b ≤ b_most
@@ -43,7 +43,7 @@ pub record Filling (bytes : List ℕ) (at b : ℕ) (t₀ bs₀ : List ℕ) (s : 
   pub same : length bs ≡ length bs₀
   pub counts : i + left ≡ s
   pub last : ℕ
-  pub judged : parts_of (layout_of first) b bytes left p ≡ Past last
+  pub judged : parts_of (layout_of first) b bytes left p ≡ Ok last
 
 -- the whole: the head says these counts, the slices have room for them, and the judging pass came past the records
 pub record ImageFill (bytes : List ℕ) (z : Sizes) (keys table buffers : List ℕ) : Type 0 where
@@ -51,4 +51,4 @@ pub record ImageFill (bytes : List ℕ) (z : Sizes) (keys table buffers : List �
   pub limits : Limits (store_of z keys table buffers)
   pub run : 9 + 7 * z.n ≤ length bytes
   pub last : ℕ
-  pub judged : parts_of (layout_of first) z.b bytes z.s (9 + 7 * z.n) ≡ Past last
+  pub judged : parts_of (layout_of first) z.b bytes z.s (9 + 7 * z.n) ≡ Ok last

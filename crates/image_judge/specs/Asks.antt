@@ -1,10 +1,7 @@
--- What the steps of the judging pass ask, and the walk along what follows the run keys, as the code divides it.
+-- What the steps of the judging pass ask.
 use Rattle.std.specs.Prelude.{List, ℕ, ◌≤◌, ◌<◌, length}
 use Rattle.image_records.specs.declared.Kind.{Kind}
 use Rattle.image_records.specs.declared.Layout.{Layout}
-use Rattle.image_records.specs.declared.Walked.{Walked}
-use Rattle.image_records.specs.Records.{and_then}
-use Rattle.image_records.specs.Images.{parts_of, end_of}
 
 pub record Ready (k : Kind) (bytes : List ℕ) (at : ℕ) : Type 0 where
   pub inside : at ≤ length bytes
@@ -21,6 +18,3 @@ pub record Laid (f : Layout) : Type 0 where
 pub record Readable (f : Layout) (bytes : List ℕ) (at : ℕ) : Type 0 where
   pub inside : at ≤ length bytes
   pub laid : Laid f
-
-unfoldable pub after_keys_of : Layout → List ℕ → ℕ → ℕ → ℕ → Walked
-after_keys_of f bytes b s at = and_then (parts_of f b bytes s at) (λ z. end_of f bytes z)

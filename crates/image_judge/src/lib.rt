@@ -7,10 +7,10 @@ ghost use Rattle.image_little.specs.Little.{get_at};
 ghost use Rattle.image_records.specs.Records.{stands_at, walk_of};
 ghost use Rattle.image_records.specs.Images.{held_at, part_of, parts_of, end_of, rest_of, layout_of};
 ghost use Rattle.image_records.specs.First.{first};
-ghost use Rattle.image_judge.specs.Judging.{sizes_at, answer_of, headed_of, judged_of};
-ghost use Rattle.image_judge.specs.Asks.{Ready, Readable, Laid, after_keys_of};
+ghost use Rattle.image_judge.specs.Judging.{sizes_at, headed_of, judged_of};
+ghost use Rattle.image_judge.specs.Asks.{Ready, Readable, Laid};
 
-use image_records::{Kind, Layout, Walked};
+use image_records::{Kind, Layout};
 use terms::{Refusal, Sizes};
 
 // Whether a record of this kind stands there: it is not cut short, and its first byte is right.
@@ -18,31 +18,23 @@ fn stands(bytes: &[u8], k: Kind, at: usize) -> bool
     requires { Ready k bytes.now at }
     ensures { result ≡ stands_at k bytes.now at }
 {
-    if bytes.len() - at < k.size {
-        return false;
-    }
-    if bytes[at] == k.kind {
-        return true;
-    }
-    false
+    k.size <= bytes.len() - at && bytes[at] == k.kind
 }
 
-// Along `count` records of one kind.
-fn walk(bytes: &[u8], k: Kind, at: usize, count: usize) -> Walked
+// Along `count` records of one kind. Here and in what follows: the byte after them, or the byte at which the record stands that is not what
+// it should be.
+fn walk(bytes: &[u8], k: Kind, at: usize, count: usize) -> Result<usize, usize>
     requires { Ready k bytes.now at }
     ensures { result ≡ walk_of k bytes.now count at }
 {
     let mut p = at;
-    let mut left = count;
-    while 0 < left {
-        if stands(bytes, k, p) {
-            p += k.size;
-            left -= 1;
-        } else {
-            return Walked::Fault(p);
+    for _ in 0..count {
+        if !stands(bytes, k, p) {
+            return Err(p);
         }
+        p += k.size;
     }
-    Walked::Past(p)
+    Ok(p)
 }
 
 // How many buffered keys the segment there says it holds.
@@ -54,96 +46,55 @@ fn held_at(bytes: &[u8], f: Layout, at: usize) -> usize
 }
 
 // Along one segment and its buffered keys.
-fn part(bytes: &[u8], f: Layout, b: usize, at: usize) -> Walked
+fn part(bytes: &[u8], f: Layout, b: usize, at: usize) -> Result<usize, usize>
     requires { Readable f bytes.now at }
     ensures { result ≡ part_of f b bytes.now at }
 {
-    if stands(bytes, f.segment, at) {
-        let h = held_at(bytes, f, at);
-        if h < b {
-            return walk(bytes, f.buffered, at + f.segment.size, h);
-        }
-        return Walked::Fault(at);
+    if !stands(bytes, f.segment, at) {
+        return Err(at);
     }
-    Walked::Fault(at)
+    let h = held_at(bytes, f, at);
+    if b <= h {
+        return Err(at);
+    }
+    walk(bytes, f.buffered, at + f.segment.size, h)
 }
 
 // Along all the segments.
-fn parts(bytes: &[u8], f: Layout, b: usize, s: usize, at: usize) -> Walked
+fn parts(bytes: &[u8], f: Layout, b: usize, s: usize, at: usize) -> Result<usize, usize>
     requires { Readable f bytes.now at }
     ensures { result ≡ parts_of f b bytes.now s at }
 {
     let mut p = at;
-    let mut left = s;
-    while 0 < left {
-        let w = part(bytes, f, b, p);
-        match w {
-            Walked::Past(z) => {
-                p = z;
-                left -= 1;
-            }
-            Walked::Fault(q) => {
-                return Walked::Fault(q);
-            }
-        }
+    for _ in 0..s {
+        p = part(bytes, f, b, p)?;
     }
-    Walked::Past(p)
+    Ok(p)
 }
 
 // The end, and nothing after it.
-fn end(bytes: &[u8], f: Layout, at: usize) -> Walked
+fn end(bytes: &[u8], f: Layout, at: usize) -> Result<usize, usize>
     requires { Readable f bytes.now at }
     ensures { result ≡ end_of f bytes.now at }
 {
-    if stands(bytes, f.end, at) {
-        let z = at + f.end.size;
-        if bytes.len() <= z {
-            return Walked::Past(z);
-        }
-        return Walked::Fault(z);
+    if !stands(bytes, f.end, at) {
+        return Err(at);
     }
-    Walked::Fault(at)
-}
-
-// What follows the run keys.
-fn after(bytes: &[u8], f: Layout, b: usize, s: usize, at: usize) -> Walked
-    requires { Readable f bytes.now at }
-    ensures { result ≡ after_keys_of f bytes.now b s at }
-{
-    let w = parts(bytes, f, b, s, at);
-    match w {
-        Walked::Past(z) => end(bytes, f, z),
-        Walked::Fault(q) => Walked::Fault(q),
+    let z = at + f.end.size;
+    if z < bytes.len() {
+        return Err(z);
     }
+    Ok(z)
 }
 
 // What follows the head.
-fn rest(bytes: &[u8], f: Layout, z: Sizes, at: usize) -> Walked
+fn rest(bytes: &[u8], f: Layout, z: Sizes, at: usize) -> Result<usize, usize>
     requires { Readable f bytes.now at }
     ensures { result ≡ rest_of f bytes.now z.b z.n z.s at }
 {
-    let w = walk(bytes, f.key, at, z.n);
-    match w {
-        Walked::Past(k) => after(bytes, f, z.b, z.s, k),
-        Walked::Fault(q) => Walked::Fault(q),
-    }
-}
-
-// What the judging pass says: the four numbers of a well-formed image, or the refusal.
-#[derive(Clone, Copy)]
-pub enum Judged {
-    Well(Sizes),
-    Refused(Refusal),
-}
-
-// The answer after a head within its limits.
-fn answer(w: Walked, z: Sizes) -> Judged
-    ensures { result ≡ answer_of z w }
-{
-    match w {
-        Walked::Past(_) => Judged::Well(z),
-        Walked::Fault(p) => Judged::Refused(Refusal::Malformed(p)),
-    }
+    let p = walk(bytes, f.key, at, z.n)?;
+    let q = parts(bytes, f, z.b, z.s, p)?;
+    end(bytes, f, q)
 }
 
 // A number of the head.
@@ -159,34 +110,35 @@ fn head_sizes(bytes: &[u8]) -> Sizes
     requires { Space bytes.now 0 9 }
     ensures { result ≡ sizes_at bytes.now }
 {
-    let e = two(bytes, 1);
-    let b = two(bytes, 3);
-    let n = two(bytes, 5);
-    let s = two(bytes, 7);
-    Sizes { e, b, n, s }
+    Sizes {
+        e: two(bytes, 1),
+        b: two(bytes, 3),
+        n: two(bytes, 5),
+        s: two(bytes, 7),
+    }
 }
 
 // After a head with these numbers: refusal 1, 10 at the rest, or the four numbers.
-fn headed(bytes: &[u8], f: Layout, z: Sizes) -> Judged
+fn headed(bytes: &[u8], f: Layout, z: Sizes) -> Result<Sizes, Refusal>
     requires { Readable f bytes.now f.head.size }
     ensures { result ≡ headed_of f bytes.now z }
 {
-    if table::counted(z) {
-        let w = rest(bytes, f, z, f.head.size);
-        return answer(w, z);
+    if !table::counted(z) {
+        return Err(Refusal::Limits);
     }
-    Judged::Refused(Refusal::Limits)
+    rest(bytes, f, z, f.head.size).map_err(Refusal::Malformed)?;
+    Ok(z)
 }
 
 // The whole pass: 10 at the head comes first.
-fn judge_by(bytes: &[u8], f: Layout) -> Judged
+fn judge_by(bytes: &[u8], f: Layout) -> Result<Sizes, Refusal>
     requires { Laid f }
     ensures { result ≡ judged_of f bytes.now }
 {
-    if stands(bytes, f.head, 0) {
-        return headed(bytes, f, head_sizes(bytes));
+    if !stands(bytes, f.head, 0) {
+        return Err(Refusal::Malformed(0));
     }
-    Judged::Refused(Refusal::Malformed(0))
+    headed(bytes, f, head_sizes(bytes))
 }
 
 // The kinds and lengths of the first edition.
@@ -204,9 +156,8 @@ fn first_layout() -> Layout
 }
 
 // Whether the bytes are an image of the first edition: refusals 10 (head), 1, 10 (rest), in that order, or e, B, n and s.
-pub fn judge(bytes: &[u8]) -> Judged
+pub fn judge(bytes: &[u8]) -> Result<Sizes, Refusal>
     ensures { result ≡ judged_of (layout_of first) bytes.now }
 {
-    let f = first_layout();
-    judge_by(bytes, f)
+    judge_by(bytes, first_layout())
 }

@@ -1,5 +1,6 @@
 -- A store that the check accepted is accepted after it was written and read: it is the same store.
 -- Assumes nothing.
+use Rattle.std.specs.Prelude.{Ok}
 use mathlib.Core.Path.{◌≡◌, sym, subst, ◌∙◌}
 use mathlib.Core.List.{List}
 use Prim.Native.Nat.{ℕ, ◌+◌, ◌≤◌, ◌<◌}
@@ -14,7 +15,6 @@ use Rattle.table.specs.Limits.{Limits, key_room, segment_room}
 use Rattle.table.specs.Entries.{entry_in, run_in, used_in}
 use Rattle.line.specs.Meaning.{Near}
 use Rattle.judge.specs.Rules.{Rules, Accepted}
-use Rattle.answers.specs.declared.Written.TheVariants.{Bytes}
 use Rattle.image_write.specs.Writing.{write_of, out_by}
 use Rattle.image_laws.specs.Same.{Same}
 use Rattle.image_laws.specs.Round.{store_read}
@@ -74,10 +74,10 @@ same_accepted σ τ same l' a =
 
 -- What is read of an accepted store's image, into slices with room enough, is accepted.
 pub accepted_back :
-    (σ : Store) (out : List ℕ) (z : ℕ) → Accepted σ → write_of σ (length out) ≡ Bytes z → (keys t bs : List ℕ) → σ.n ≤ key_room keys → σ.s ≤ segment_room σ.b t bs
-    → Accepted (store_read (take z (out_by (Bytes z) σ out)) keys t bs (sizes_in σ))
+    (σ : Store) (out : List ℕ) (z : ℕ) → Accepted σ → write_of σ (length out) ≡ Ok z → (keys t bs : List ℕ) → σ.n ≤ key_room keys → σ.s ≤ segment_room σ.b t bs
+    → Accepted (store_read (take z (out_by (Ok z) σ out)) keys t bs (sizes_in σ))
 accepted_back σ out z a w keys t bs k g =
-    let l : List ℕ = take z (out_by (Bytes z) σ out) in
+    let l : List ℕ = take z (out_by (Ok z) σ out) in
     let v : Image = image_at first l in
     let h : Holds σ.b σ.s t bs = room_holds σ.b σ.s t bs (omega (arith, a.limits.b_least)) g in
     let n₁ : length (over keys 0 (firsts v.keys)) ≡ length keys = length_over keys 0 (firsts v.keys) in

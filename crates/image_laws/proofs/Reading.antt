@@ -1,5 +1,7 @@
 -- Demand 1 for reading an image: its answer is the one that 01 describes, refusals exactly when and in the order its table says, and only that one.
 -- Assumes nothing.
+use Rattle.std.specs.Prelude.{Result, Ok, Err}
+use Rattle.terms.specs.declared.Refusal.{Refusal}
 use mathlib.Core.Path.{◌≡◌, refl, sym, ap, ◌∙◌}
 use mathlib.Core.Bool.{true, false}
 use mathlib.Core.List.{List}
@@ -10,8 +12,6 @@ use Rattle.terms.specs.declared.Refusal.TheVariants.{Limits as OutOfLimits, KeyR
 use Rattle.lists.proofs.Tests.{either, clash, is_false}
 use Rattle.table.specs.Limits.{Counted, counted_of, key_room, segment_room}
 use Rattle.table.proofs.Limits.{counted_true, true_counted}
-use Rattle.image_records.specs.declared.Walked.{Walked}
-use Rattle.image_records.specs.declared.Walked.TheVariants.{Past, Fault}
 use Rattle.image_records.specs.Records.{total, stands_at, kind_of}
 use Rattle.image_records.specs.Images.{layout_of, rest_of}
 use Rattle.image_records.specs.Meaning.{Rest}
@@ -19,44 +19,40 @@ use Rattle.image_records.specs.First.{first}
 use Rattle.image_records.proofs.Records.{stands_true, true_stands}
 use Rattle.image_records.proofs.Meaning.{rest_is, rest_one}
 use Rattle.image_judge.specs.Judging.{sizes_at, answer_of, headed_of, judged_of}
-use Rattle.image_judge.specs.declared.Judged.{Judged}
-use Rattle.image_judge.specs.declared.Judged.TheVariants.{Well, Refused as Unwell}
 use Rattle.image_read.specs.Loading.{keys_held, segments_held, roomed_of, after_judged, load_of}
-use Rattle.answers.specs.declared.Loaded.{Loaded}
-use Rattle.answers.specs.declared.Loaded.TheVariants.{Store, Refused}
 use Rattle.image_laws.specs.Reading.{Head, e_in, b_in, n_in, s_in, Headed, Formed, Faulty, Answers, taken, refused_10_head, refused_1, refused_10, refused_6, refused_7}
 
 -- ---- what the judging pass says, by what stands
 
 module _ (l : List ℕ) where
-  abbrev walked : Walked
+  abbrev walked : Result ℕ ℕ
   walked = rest_of (layout_of first) l (b_in l) (n_in l) (s_in l) 9
 
   walked_is : Rest (layout_of first) l (b_in l) (n_in l) (s_in l) 9 walked
   walked_is = rest_is (layout_of first) l (b_in l) (n_in l) (s_in l) 9
 
-  judged_head : (Head l → ⊥) → judged_of (layout_of first) l ≡ Unwell (Malformed 0)
+  judged_head : (Head l → ⊥) → judged_of (layout_of first) l ≡ Err (Malformed 0)
   unfolding judged_of
   judged_head x =
       let t : stands_at (kind_of first.head) l 0 ≡ false = is_false (stands_at (kind_of first.head) l 0) (λ e. x (stands_true (kind_of first.head) l 0 e)) in
       simp t
 
-  judged_limits : Head l → (Counted (e_in l) (b_in l) (n_in l) (s_in l) → ⊥) → judged_of (layout_of first) l ≡ Unwell OutOfLimits
+  judged_limits : Head l → (Counted (e_in l) (b_in l) (n_in l) (s_in l) → ⊥) → judged_of (layout_of first) l ≡ Err OutOfLimits
   unfolding judged_of headed_of
   judged_limits h x =
       let c : counted_of (e_in l) (b_in l) (n_in l) (s_in l) ≡ false = is_false (counted_of (e_in l) (b_in l) (n_in l) (s_in l)) (λ e. x (counted_true (e_in l) (b_in l) (n_in l) (s_in l) e)) in
       simp (true_stands (kind_of first.head) l 0 h, c)
 
-  judged_rest : Headed l → (w : Walked) → walked ≡ w → judged_of (layout_of first) l ≡ answer_of (sizes_at l) w
+  judged_rest : Headed l → (w : Result ℕ ℕ) → walked ≡ w → judged_of (layout_of first) l ≡ answer_of (sizes_at l) w
   unfolding judged_of headed_of total
   judged_rest h w e =
       simp (true_stands (kind_of first.head) l 0 h.head, true_counted (e_in l) (b_in l) (n_in l) (s_in l) h.counted) (ap (answer_of (sizes_at l)) e)
 
-  judged_formed : Formed l → judged_of (layout_of first) l ≡ Well (sizes_at l)
-  judged_formed g = judged_rest g.headed (Past g.last) (rest_one (layout_of first) l (b_in l) (n_in l) (s_in l) 9 walked (Past g.last) walked_is g.rest)
+  judged_formed : Formed l → judged_of (layout_of first) l ≡ Ok (sizes_at l)
+  judged_formed g = judged_rest g.headed (Ok g.last) (rest_one (layout_of first) l (b_in l) (n_in l) (s_in l) 9 walked (Ok g.last) walked_is g.rest)
 
-  judged_faulty : (p : ℕ) → Headed l → Faulty l p → judged_of (layout_of first) l ≡ Unwell (Malformed p)
-  judged_faulty p h g = judged_rest h (Fault p) (rest_one (layout_of first) l (b_in l) (n_in l) (s_in l) 9 walked (Fault p) walked_is g)
+  judged_faulty : (p : ℕ) → Headed l → Faulty l p → judged_of (layout_of first) l ≡ Err (Malformed p)
+  judged_faulty p h g = judged_rest h (Err p) (rest_one (layout_of first) l (b_in l) (n_in l) (s_in l) 9 walked (Err p) walked_is g)
 
 -- ---- and the rooms
 
@@ -93,9 +89,9 @@ module _ (l keys t bs : List ℕ) where
   unfolding segments_held
   false_segments b s h = lt-leb s (segment_room b t bs) h
 
-  load_is : (w : Judged) → judged_of (layout_of first) l ≡ w → after_judged w keys t bs ≡ load_of l keys t bs
+  load_is : (w : Result Sizes Refusal) → judged_of (layout_of first) l ≡ w → after_judged w keys t bs ≡ load_of l keys t bs
   unfolding load_of
-  load_is w e = ap (λ (x : Judged). after_judged x keys t bs) (sym e)
+  load_is w e = ap (λ (x : Result Sizes Refusal). after_judged x keys t bs) (sym e)
 
   -- ---- the answer has its meaning
 
@@ -107,9 +103,9 @@ module _ (l keys t bs : List ℕ) where
       (λ y. simp (x, y) (refused_7 g (keys_true (n_in l) x) (segments_false (b_in l) (s_in l) y))))
       (λ x. simp x (refused_6 g (keys_false (n_in l) x)))
 
-  walked_answers : Headed l → (w : Walked) → Rest (layout_of first) l (b_in l) (n_in l) (s_in l) 9 w → Answers l keys t bs (after_judged (answer_of (sizes_at l) w) keys t bs)
-  walked_answers h (Past z) r = formed_answers (record { headed = h; last = z; rest = r })
-  walked_answers h (Fault p) r = refused_10 h r
+  walked_answers : Headed l → (w : Result ℕ ℕ) → Rest (layout_of first) l (b_in l) (n_in l) (s_in l) 9 w → Answers l keys t bs (after_judged (answer_of (sizes_at l) w) keys t bs)
+  walked_answers h (Ok z) r = formed_answers (record { headed = h; last = z; rest = r })
+  walked_answers h (Err p) r = refused_10 h r
 
   -- Reading's answer means what it should.
   pub read_answers : Answers l keys t bs (load_of l keys t bs)
@@ -123,33 +119,33 @@ module _ (l keys t bs : List ℕ) where
       rw (sym (load_is (answer_of (sizes_at l) (walked l)) (judged_rest l g (walked l) refl))) (walked_answers g (walked l) (walked_is l)))
       (λ y.
       let c : Counted (e_in l) (b_in l) (n_in l) (s_in l) → ⊥ = λ k. clash (sym (true_counted (e_in l) (b_in l) (n_in l) (s_in l) k) ∙ y) in
-      rw (sym (load_is (Unwell OutOfLimits) (judged_limits l h c))) (refused_1 h c)))
+      rw (sym (load_is (Err OutOfLimits) (judged_limits l h c))) (refused_1 h c)))
       (λ x.
       let n : Head l → ⊥ = λ h. clash (sym (true_stands (kind_of first.head) l 0 h) ∙ x) in
-      rw (sym (load_is (Unwell (Malformed 0)) (judged_head l n))) (refused_10_head n))
+      rw (sym (load_is (Err (Malformed 0)) (judged_head l n))) (refused_10_head n))
 
   -- ---- and nothing else does
 
-  formed_loads : Formed l → {a : Loaded} → a ≡ roomed_of (sizes_at l) keys t bs → a ≡ load_of l keys t bs
-  formed_loads g e = e ∙ load_is (Well (sizes_at l)) (judged_formed l g)
+  formed_loads : Formed l → {a : Result Sizes Refusal} → a ≡ roomed_of (sizes_at l) keys t bs → a ≡ load_of l keys t bs
+  formed_loads g e = e ∙ load_is (Ok (sizes_at l)) (judged_formed l g)
 
-  roomed_store : (z : Sizes) → z.n ≤ key_room keys → z.s ≤ segment_room z.b t bs → Store z.e z.b z.n z.s ≡ roomed_of z keys t bs
+  roomed_store : (z : Sizes) → z.n ≤ key_room keys → z.s ≤ segment_room z.b t bs → Ok z ≡ roomed_of z keys t bs
   unfolding roomed_of
   roomed_store z x y = simp (true_keys z.n x, true_segments z.b z.s y)
 
-  roomed_keys : (z : Sizes) → key_room keys < z.n → Refused KeyRoom ≡ roomed_of z keys t bs
+  roomed_keys : (z : Sizes) → key_room keys < z.n → Err KeyRoom ≡ roomed_of z keys t bs
   unfolding roomed_of
   roomed_keys z x = simp (false_keys z.n x)
 
-  roomed_segments : (z : Sizes) → z.n ≤ key_room keys → segment_room z.b t bs < z.s → Refused SegmentRoom ≡ roomed_of z keys t bs
+  roomed_segments : (z : Sizes) → z.n ≤ key_room keys → segment_room z.b t bs < z.s → Err SegmentRoom ≡ roomed_of z keys t bs
   unfolding roomed_of
   roomed_segments z x y = simp (true_keys z.n x, false_segments z.b z.s y)
 
   -- An answer that means what it should is reading's.
-  pub read_only : (a : Loaded) → Answers l keys t bs a → a ≡ load_of l keys t bs
+  pub read_only : (a : Result Sizes Refusal) → Answers l keys t bs a → a ≡ load_of l keys t bs
   read_only a (taken g x y) = formed_loads g (roomed_store (sizes_at l) x y)
-  read_only a (refused_10_head x) = load_is (Unwell (Malformed 0)) (judged_head l x)
-  read_only a (refused_1 h x) = load_is (Unwell OutOfLimits) (judged_limits l h x)
-  read_only a (refused_10 {p} h x) = load_is (Unwell (Malformed p)) (judged_faulty l p h x)
+  read_only a (refused_10_head x) = load_is (Err (Malformed 0)) (judged_head l x)
+  read_only a (refused_1 h x) = load_is (Err OutOfLimits) (judged_limits l h x)
+  read_only a (refused_10 {p} h x) = load_is (Err (Malformed p)) (judged_faulty l p h x)
   read_only a (refused_6 g x) = formed_loads g (roomed_keys (sizes_at l) x)
   read_only a (refused_7 g x y) = formed_loads g (roomed_segments (sizes_at l) x y)

@@ -1,6 +1,7 @@
 -- Demand 2, its last sentence: writing a store and reading it gives the same store, and reading an image and writing it gives the same bytes.
 -- And what reading does not touch.
 -- Assumes nothing.
+use Rattle.std.specs.Prelude.{Ok}
 use mathlib.Core.Path.{◌≡◌, refl, sym, ap, ◌∙◌, subst}
 use mathlib.Core.Bool.{true}
 use mathlib.Core.List.{List}
@@ -20,7 +21,6 @@ use Rattle.terms.specs.Limits.{sizes_of}
 use Rattle.table.specs.Store.{Store, store_of, sizes_in}
 use Rattle.table.specs.Limits.{Limits, Counted, key_room, segment_room}
 use Rattle.table.specs.Entries.{entry_of, entry_in}
-use Rattle.image_records.specs.declared.Walked.TheVariants.{Past}
 use Rattle.image_records.specs.Records.{total, fields_at, stands_at, kind_of}
 use Rattle.image_records.specs.Images.{layout_of, rest_of, well_of, Image, image_bytes, image_at, Good}
 use Rattle.image_records.specs.Meaning.{Rest}
@@ -34,11 +34,9 @@ use Rattle.image_records.proofs.First.{first_proper}
 use Rattle.image_records.proofs.Filled.{filled_image, slots_length, slots_kept, firsts_length, rows_length}
 use Rattle.image_judge.specs.Judging.{sizes_at}
 use Rattle.image_read.specs.Loading.{load_of}
-use Rattle.answers.specs.declared.Loaded.TheVariants.{Store as Read}
 use Rattle.image_read.proofs.Told.{told_well, told_head}
 use Rattle.image_read.proofs.Laws.{Taken, taken}
 use Rattle.image_write.specs.Writing.{length_of, write_of, out_by}
-use Rattle.answers.specs.declared.Written.TheVariants.{Bytes as Wrote}
 use Rattle.image_write.proofs.Laws.{Told as Writes, written_told}
 use Rattle.image_laws.specs.Writing.{Entries, Run, bytes_of, written}
 use Rattle.image_laws.specs.Reading.{e_in, b_in, n_in, s_in, Formed}
@@ -62,7 +60,7 @@ module _ (l : List ℕ) where
 -- ---- write, then read
 
 -- a store that writing accepts
-module _ (σ : Store) (room z : ℕ) (w : write_of σ room ≡ Wrote z) where
+module _ (σ : Store) (room z : ℕ) (w : write_of σ room ≡ Ok z) where
   told : Writes σ room z
   told = written_told σ room z w
 
@@ -87,11 +85,11 @@ module _ (σ : Store) (room z : ℕ) (w : write_of σ room ≡ Wrote z) where
     abbrev l : List ℕ
     l = image_bytes first (image_in σ)
 
-    well_rest : (y : ℕ) → well_of first l ≡ Past y → (stands_at (kind_of first.head) l 0 ≡ true) × (rest_of (layout_of first) l (b_in l) (n_in l) (s_in l) 9 ≡ Past y)
+    well_rest : (y : ℕ) → well_of first l ≡ Ok y → (stands_at (kind_of first.head) l 0 ≡ true) × (rest_of (layout_of first) l (b_in l) (n_in l) (s_in l) 9 ≡ Ok y)
     unfolding well_of fields_at total
     well_rest y e = either (stands_at (kind_of first.head) l 0) (λ x. (x, simp x at e)) (λ x. no_fault 0 y (simp x at e))
 
-    module _ (y : ℕ) (e : well_of first l ≡ Past y) (same : image_at first l ≡ image_in σ) where
+    module _ (y : ℕ) (e : well_of first l ≡ Ok y) (same : image_at first l ≡ image_in σ) where
       same_sizes : sizes_at l ≡ sizes_in σ
       unfolding image_in
       same_sizes = sym (head_is l) ∙ ap head_sizes same
@@ -107,16 +105,16 @@ module _ (σ : Store) (room z : ℕ) (w : write_of σ room ≡ Wrote z) where
           let x : Rest (layout_of first) l (b_in l) (n_in l) (s_in l) 9 (rest_of (layout_of first) l (b_in l) (n_in l) (s_in l) 9) = rest_is (layout_of first) l (b_in l) (n_in l) (s_in l) 9 in
           record { headed = record { head = stands_true (kind_of first.head) l 0 r.0; counted = counted }; last = y; rest = rw r.1 at x }
 
-      loads : load_of l keys t bs ≡ Read σ.e σ.b σ.n σ.s
+      loads : load_of l keys t bs ≡ Ok (sizes_of σ.e σ.b σ.n σ.s)
       loads =
           let k : n_in l ≤ key_room keys = subst (λ (z : Sizes). z.n ≤ key_room keys) (sym same_sizes) keys_room in
           let g : s_in l ≤ segment_room (b_in l) t bs = subst (λ (z : Sizes). z.s ≤ segment_room z.b t bs) (sym same_sizes) segments_room in
-          sym (read_only l keys t bs (Read (e_in l) (b_in l) (n_in l) (s_in l)) (reading.taken formed k g)) ∙
-          ap (λ (z : Sizes). Read z.e z.b z.n z.s) same_sizes
+          sym (read_only l keys t bs (Ok (sizes_of (e_in l) (b_in l) (n_in l) (s_in l))) (reading.taken formed k g)) ∙
+          ap Ok same_sizes
 
       fill_room : Limits (store_of (head_sizes (image_in σ)) keys t bs)
       unfolding image_in
-      fill_room = (taken l keys t bs σ.e σ.b σ.n σ.s loads).limits
+      fill_room = (taken l keys t bs (sizes_in σ) loads).limits
 
       image_same : image_in (store_read l keys t bs (sizes_in σ)) ≡ image_in σ
       image_same =
@@ -131,8 +129,8 @@ module _ (σ : Store) (room z : ℕ) (w : write_of σ room ≡ Wrote z) where
 
 -- For every store that writing accepts: the out slice then starts with its image, and reading those bytes into slices with room enough
 -- gives the same e, B, n, s and the same used cells.
-pub write_read : (σ : Store) (out : List ℕ) (z : ℕ) → write_of σ (length out) ≡ Wrote z → (keys t bs : List ℕ) → σ.n ≤ key_room keys → σ.s ≤ segment_room σ.b t bs →
-    Back σ (take z (out_by (Wrote z) σ out)) keys t bs
+pub write_read : (σ : Store) (out : List ℕ) (z : ℕ) → write_of σ (length out) ≡ Ok z → (keys t bs : List ℕ) → σ.n ≤ key_room keys → σ.s ≤ segment_room σ.b t bs →
+    Back σ (take z (out_by (Ok z) σ out)) keys t bs
 write_read σ out z w keys t bs k g =
     let n : length (image_bytes first (image_in σ)) ≡ z = sym (length_told σ (length out) z w) in
     let r : length (image_bytes first (image_in σ)) ≤ length out = room_told σ (length out) z w in
@@ -159,12 +157,12 @@ apart_in b p t bs i (suc count) free =
 
 -- ---- read, then write
 
-module _ (l keys t bs : List ℕ) (e b n s : ℕ) (small : Bytes l) (q : load_of l keys t bs ≡ Read e b n s) where
+module _ (l keys t bs : List ℕ) (e b n s : ℕ) (small : Bytes l) (q : load_of l keys t bs ≡ Ok (sizes_of e b n s)) where
   abbrev z : Sizes
   z = sizes_of e b n s
 
   got : Taken l z keys t bs
-  got = taken l keys t bs e b n s q
+  got = taken l keys t bs z q
 
   abbrev v : Image
   v = image_at first l
@@ -199,9 +197,9 @@ module _ (l keys t bs : List ℕ) (e b n s : ℕ) (small : Bytes l) (q : load_of
   long : bytes_of τ ≡ length l
   long = ap length bytes_are
 
-  answered : (room : ℕ) → length l ≤ room → write_of τ room ≡ Wrote (length l)
+  answered : (room : ℕ) → length l ≤ room → write_of τ room ≡ Ok (length l)
   answered room h =
-      sym (write_only τ room (Wrote (bytes_of τ)) (written τ_limits (good_entries τ τ_good) (good_run τ τ_good) (rw long h))) ∙ ap Wrote long
+      sym (write_only τ room (Ok (bytes_of τ)) (written τ_limits (good_entries τ τ_good) (good_run τ τ_good) (rw long h))) ∙ ap Ok long
 
   -- For every byte string that reading accepts: writing the store read gives the same bytes, store rules kept or not.
   pub read_write : Again τ l

@@ -1,5 +1,7 @@
 -- Demand 1 for writing an image: its answer is the one that 01 describes, refusals exactly when and in the order its table says, and only that one.
 -- Assumes nothing.
+use Rattle.std.specs.Prelude.{Option, Some, None, Result, Ok, Err}
+use Rattle.terms.specs.declared.Refusal.{Refusal}
 use mathlib.Core.Path.{◌≡◌, refl, sym, ◌∙◌}
 use mathlib.Core.Bool.{true, false}
 use mathlib.Core.List.{List, [], ◌∷◌}
@@ -11,10 +13,8 @@ use borrow.Author.Tests.{leb-true, leb-false, le-leb, lt-leb, ltb-true, ltb-fals
 use Rattle.terms.specs.declared.Refusal.TheVariants.{Limits as OutOfLimits, StoreWrong, OutRoom}
 use Rattle.lists.specs.Tests.{pick}
 use Rattle.lists.proofs.Tests.{either, clash, is_true, is_false, all_each, each_all}
-use Rattle.scan.specs.declared.Found.{Found}
-use Rattle.scan.specs.declared.Found.TheVariants.{At, Nothing}
 use Rattle.scan.specs.Scan.{fails_of, none_of}
-use Rattle.scan.specs.Meaning.{None, Scanned}
+use Rattle.scan.specs.Meaning.{NoneIn, Scanned}
 use Rattle.scan.proofs.Meaning.{fails_scanned, scanned_same, one_answer, passes, passing}
 use Rattle.table.specs.Store.{Store}
 use Rattle.table.specs.Limits.{Limits, limited_of}
@@ -25,8 +25,6 @@ use Rattle.image_records.specs.Stores.{row_in}
 use Rattle.image_records.proofs.Records.{fits_fit, fit_fits}
 use Rattle.image_fits.specs.Fits.{fits_at, cells_fit, entry_tests, entry_fits, run_wrong, or_else, wrong_of}
 use Rattle.image_write.specs.Writing.{length_of, fitted_of, judged_of, write_of}
-use Rattle.answers.specs.declared.Written.{Written}
-use Rattle.answers.specs.declared.Written.TheVariants.{Bytes, Refused}
 use Rattle.image_laws.specs.Writing.{Writable, Entries, Run, bytes_of, Answers, written, refused_1, refused_9_entry, refused_9_run, refused_8}
 
 -- ---- the tests as facts
@@ -91,10 +89,10 @@ module _ (σ : Store) (i : ℕ) where
 -- ---- the two scans
 
 module _ (σ : Store) (room : ℕ) where
-  abbrev entries : Found
+  abbrev entries : Option ℕ
   entries = fails_of (entry_fits σ.b σ.table σ.buffers) 0 (σ.s - 0)
 
-  abbrev run : Found
+  abbrev run : Option ℕ
   run = fails_of (fits_at six σ.keys) 0 (σ.n - 0)
 
   abbrev Wrong : ℕ → Type 0
@@ -117,11 +115,11 @@ module _ (σ : Store) (room : ℕ) where
       (rw z at (fails_scanned (fits_at six σ.keys) 0 (σ.n - 0)))
 
   -- none wrong, none large, as the meanings say it
-  no_entry : None Wrong 0 σ.s → Limits σ → Entries σ
+  no_entry : NoneIn Wrong 0 σ.s → Limits σ → Entries σ
   no_entry v l i h =
       entry_writable σ i (is_true (entry_fits σ.b σ.table σ.buffers i) (λ t. v i (omega arith) h (λ w. clash (sym (writable_entry σ i l w) ∙ t))))
 
-  no_key : None Large 0 σ.n → Run σ
+  no_key : NoneIn Large 0 σ.n → Run σ
   no_key v p h =
       either (ltb (get_or σ.keys p 0) (256 ^ 6)) (λ t. ltb-true (get_or σ.keys p 0) (256 ^ 6) t)
       (λ t. absurd (v p (omega arith) h (ltb-false (get_or σ.keys p 0) (256 ^ 6) t)))
@@ -131,8 +129,8 @@ module _ (σ : Store) (room : ℕ) where
   long = refl
 
   -- the answer, by what the two scans find
-  abbrev answer : Found → Found → Written
-  answer f g = judged_of (or_else f (pick (none_of g) Nothing (At σ.s))) (length_of σ) room
+  abbrev answer : Option ℕ → Option ℕ → Result ℕ Refusal
+  answer f g = judged_of (or_else f (pick (none_of g) None (Some σ.s))) (length_of σ) room
 
   fitted_answers : Limits σ → Entries σ → Run σ → Answers σ room (fitted_of (length_of σ) room)
   unfolding fitted_of
@@ -141,16 +139,16 @@ module _ (σ : Store) (room : ℕ) where
       (λ t. let h : length_of σ ≤ room = leb-true (length_of σ) room t in simp t (rw long (written l e r (rw long at h))))
       (λ t. let h : room < length_of σ = leb-false (length_of σ) room t in simp t (refused_8 l e r (rw long at h)))
 
-  scan_answers : Limits σ → (f g : Found) → Scanned Wrong 0 σ.s f → Scanned Large 0 σ.n g → Answers σ room (answer f g)
-  scan_answers l (At i) g v w = refused_9_entry l v
-  scan_answers l Nothing (At p) v w = refused_9_run l (no_entry v l) w.below w.holds
-  scan_answers l Nothing Nothing v w = fitted_answers l (no_entry v l) (no_key w)
+  scan_answers : Limits σ → (f g : Option ℕ) → Scanned Wrong 0 σ.s f → Scanned Large 0 σ.n g → Answers σ room (answer f g)
+  scan_answers l (Some i) g v w = refused_9_entry l v
+  scan_answers l None (Some p) v w = refused_9_run l (no_entry v l) w.below w.holds
+  scan_answers l None None v w = fitted_answers l (no_entry v l) (no_key w)
 
   limited_is : limited_of σ ≡ true → answer entries run ≡ write_of σ room
   unfolding write_of wrong_of run_wrong
   limited_is t = simp t
 
-  unlimited_is : limited_of σ ≡ false → Refused OutOfLimits ≡ write_of σ room
+  unlimited_is : limited_of σ ≡ false → Err OutOfLimits ≡ write_of σ room
   unfolding write_of
   unlimited_is t = simp t
 
@@ -163,34 +161,34 @@ module _ (σ : Store) (room : ℕ) where
 
   -- ---- and nothing else does
 
-  found : Limits σ → (f g : Found) → Scanned Wrong 0 σ.s f → Scanned Large 0 σ.n g → answer f g ≡ write_of σ room
+  found : Limits σ → (f g : Option ℕ) → Scanned Wrong 0 σ.s f → Scanned Large 0 σ.n g → answer f g ≡ write_of σ room
   found l f g v w =
       let p : f ≡ entries = one_answer Wrong 0 σ.s f entries v (entries_scanned l) in
       let q : g ≡ run = one_answer Large 0 σ.n g run w run_scanned in
       rw (p, q) (limited_is (true_limited σ l))
 
-  none_wrong : Entries σ → None Wrong 0 σ.s
+  none_wrong : Entries σ → NoneIn Wrong 0 σ.s
   none_wrong e q a b x = x (e q b)
 
-  none_large : Run σ → None Large 0 σ.n
+  none_large : Run σ → NoneIn Large 0 σ.n
   none_large r q a b x = let h : get_or σ.keys q 0 < 256 ^ 6 = r q b in omega arith
 
-  run_found : (p : ℕ) → p < σ.n → Large p → (g : Found) → Scanned Large 0 σ.n g → answer Nothing g ≡ Refused (StoreWrong σ.s)
-  run_found p h x (At q) w = refl
-  run_found p h x Nothing w = absurd (w p (omega arith) h x)
+  run_found : (p : ℕ) → p < σ.n → Large p → (g : Option ℕ) → Scanned Large 0 σ.n g → answer None g ≡ Err (StoreWrong σ.s)
+  run_found p h x (Some q) w = refl
+  run_found p h x None w = absurd (w p (omega arith) h x)
 
-  fits_out : bytes_of σ ≤ room → Bytes (bytes_of σ) ≡ fitted_of (length_of σ) room
+  fits_out : bytes_of σ ≤ room → Ok (bytes_of σ) ≡ fitted_of (length_of σ) room
   unfolding fitted_of
   fits_out h = rw long (simp (le-leb (bytes_of σ) room h))
 
-  no_room : room < bytes_of σ → Refused OutRoom ≡ fitted_of (length_of σ) room
+  no_room : room < bytes_of σ → Err OutRoom ≡ fitted_of (length_of σ) room
   unfolding fitted_of
   no_room h = rw long (simp (lt-leb (bytes_of σ) room h))
 
   -- An answer that means what it should is writing's.
-  pub write_only : (a : Written) → Answers σ room a → a ≡ write_of σ room
-  write_only a (written l e r h) = fits_out h ∙ found l Nothing Nothing (none_wrong e) (none_large r)
+  pub write_only : (a : Result ℕ Refusal) → Answers σ room a → a ≡ write_of σ room
+  write_only a (written l e r h) = fits_out h ∙ found l None None (none_wrong e) (none_large r)
   write_only a (refused_1 x) = either (limited_of σ) (λ t. absurd (x (limited_true σ t))) (λ t. unlimited_is t)
-  write_only a (refused_9_entry {i} l v) = found l (At i) run v run_scanned
-  write_only a (refused_9_run {p} l e h x) = sym (run_found p h x run run_scanned) ∙ found l Nothing run (none_wrong e) run_scanned
-  write_only a (refused_8 l e r h) = no_room h ∙ found l Nothing Nothing (none_wrong e) (none_large r)
+  write_only a (refused_9_entry {i} l v) = found l (Some i) run v run_scanned
+  write_only a (refused_9_run {p} l e h x) = sym (run_found p h x run run_scanned) ∙ found l None run (none_wrong e) run_scanned
+  write_only a (refused_8 l e r h) = no_room h ∙ found l None None (none_wrong e) (none_large r)

@@ -1,4 +1,6 @@
 -- What each answer of image writing means, with no scan in it: 01's table, row by row, in its order 1, 9, 8.
+use Rattle.std.specs.Prelude.{Result, Ok, Err}
+use Rattle.terms.specs.declared.Refusal.{Refusal}
 use Rattle.std.specs.Prelude.{ℕ, ◌+◌, ◌*◌, ◌^◌, ◌≤◌, ◌<◌, length, get_or}
 use Rattle.terms.specs.declared.Refusal.TheVariants.{Limits as OutOfLimits, StoreWrong, OutRoom}
 use Rattle.table.specs.Store.{Store}
@@ -8,8 +10,6 @@ use Rattle.scan.specs.Meaning.{Lowest}
 use Rattle.image_records.specs.Images.{image_bytes}
 use Rattle.image_records.specs.First.{first}
 use Rattle.image_records.specs.Stores.{image_in}
-use Rattle.answers.specs.declared.Written.{Written}
-use Rattle.answers.specs.declared.Written.TheVariants.{Bytes, Refused}
 
 -- entry i is not one "with a field that doesn't fit or held ≥ B" ("a buffered key counts to its segment")
 pub record Writable (σ : Store) (i : ℕ) : Type 0 where
@@ -32,9 +32,9 @@ abbrev pub bytes_of : Store → ℕ
 bytes_of σ = length (image_bytes first (image_in σ))
 
 -- the answers with an out slice of `room` bytes
-pub data Answers (σ : Store) (room : ℕ) : Written → Type 0 where
-  written : Limits σ → Entries σ → Run σ → bytes_of σ ≤ room → Answers σ room (Bytes (bytes_of σ))
-  refused_1 : (Limits σ → ⊥) → Answers σ room (Refused OutOfLimits)
-  refused_9_entry : {i : ℕ} → Limits σ → Lowest (λ j. Writable σ j → ⊥) 0 σ.s i → Answers σ room (Refused (StoreWrong i))
-  refused_9_run : {p : ℕ} → Limits σ → Entries σ → p < σ.n → 256 ^ 6 ≤ get_or σ.keys p 0 → Answers σ room (Refused (StoreWrong σ.s))
-  refused_8 : Limits σ → Entries σ → Run σ → room < bytes_of σ → Answers σ room (Refused OutRoom)
+pub data Answers (σ : Store) (room : ℕ) : Result ℕ Refusal → Type 0 where
+  written : Limits σ → Entries σ → Run σ → bytes_of σ ≤ room → Answers σ room (Ok (bytes_of σ))
+  refused_1 : (Limits σ → ⊥) → Answers σ room (Err OutOfLimits)
+  refused_9_entry : {i : ℕ} → Limits σ → Lowest (λ j. Writable σ j → ⊥) 0 σ.s i → Answers σ room (Err (StoreWrong i))
+  refused_9_run : {p : ℕ} → Limits σ → Entries σ → p < σ.n → 256 ^ 6 ≤ get_or σ.keys p 0 → Answers σ room (Err (StoreWrong σ.s))
+  refused_8 : Limits σ → Entries σ → Run σ → room < bytes_of σ → Answers σ room (Err OutRoom)

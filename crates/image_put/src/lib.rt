@@ -3,13 +3,14 @@
 #![tactic(auto)]
 
 ghost use Rattle.std.specs.Prelude.{◌≡◌, ◌+◌, length};
-ghost use Rattle.table.specs.Store.{store_of};
+ghost use Rattle.table.specs.Store.{store_in};
 ghost use Rattle.image_records.specs.Images.{image_bytes};
 ghost use Rattle.image_records.specs.First.{first};
 ghost use Rattle.image_records.specs.Stores.{image_in};
 ghost use Rattle.lists.specs.Over.{over, Space};
 ghost use Rattle.image_put.specs.Pieces.{byte_bytes, pair_bytes, line_bytes, key_bytes, keys_bytes, head_bytes, segment_bytes, row_bytes, piece_bytes, pieces_bytes, end_bytes, rest_bytes, KeysRoom, RowRoom, PieceRoom, PiecesRoom, RestRoom, ImageRoom};
 
+use table::Store;
 use terms::Sizes;
 
 // Stored by a call, after which the length of the slice is known.
@@ -175,12 +176,13 @@ fn put_rest(dst: &mut [u8], at: usize, b: usize, table: &[u64], buffers: &[u64],
 }
 
 // The whole image of a store that can be written, over a slice with room for it.
-pub fn put_image(dst: &mut [u8], z: Sizes, keys: &[u64], table: &[u64], buffers: &[u64]) -> usize
-    requires { ImageRoom dst.old (store_of z keys.now table.now buffers.now) }
-    ensures place { result ≡ length (image_bytes first (image_in (store_of z keys.now table.now buffers.now))) }
-    ensures cells { dst.new ≡ over dst.old 0 (image_bytes first (image_in (store_of z keys.now table.now buffers.now))) }
+pub fn put_image(dst: &mut [u8], store: Store) -> usize
+    requires { ImageRoom dst.old (store_in store) }
+    ensures place { result ≡ length (image_bytes first (image_in (store_in store.entry))) }
+    ensures cells { dst.new ≡ over dst.old 0 (image_bytes first (image_in (store_in store.entry))) }
 {
+    let z = store.sizes;
     let p = put_head(dst, z);
-    let q = put_keys(dst, p, 2, keys, 0, z.n);
-    put_rest(dst, q, z.b, table, buffers, z.s)
+    let q = put_keys(dst, p, 2, store.keys, 0, z.n);
+    put_rest(dst, q, z.b, store.table, store.buffers, z.s)
 }

@@ -5,8 +5,6 @@ ghost use Rattle.std.specs.Prelude.{◌≡◌, ◌<◌};
 ghost use Rattle.table.specs.Limits.{Counted};
 ghost use Rattle.image_read.specs.Loading.{keys_held, segments_held, roomed_of, load_of, keys_by, table_by, buffers_by};
 
-use answers::Loaded;
-use image_judge::Judged;
 use terms::{Refusal, Sizes};
 
 // Whether there is room for n keys.
@@ -25,52 +23,55 @@ fn segments_held(b: usize, s: usize, table: &[u64], buffers: &[u64]) -> bool
 }
 
 // Refusals 6 and 7, for counts within their limits.
-fn roomed(z: Sizes, keys: &[u64], table: &[u64], buffers: &[u64]) -> Loaded
+fn roomed(z: Sizes, keys: &[u64], table: &[u64], buffers: &[u64]) -> Result<Sizes, Refusal>
     requires { Counted z.e z.b z.n z.s }
     ensures { result ≡ roomed_of z keys.now table.now buffers.now }
 {
-    if keys_held(z.n, keys) {
-        if segments_held(z.b, z.s, table, buffers) {
-            return Loaded::Store {
-                e: z.e,
-                b: z.b,
-                n: z.n,
-                s: z.s,
-            };
-        }
-        return Loaded::Refused(Refusal::SegmentRoom);
+    if !keys_held(z.n, keys) {
+        return Err(Refusal::KeyRoom);
     }
-    Loaded::Refused(Refusal::KeyRoom)
+    if !segments_held(z.b, z.s, table, buffers) {
+        return Err(Refusal::SegmentRoom);
+    }
+    Ok(z)
 }
 
 // The answer; it reads only.
-fn decide(image: &[u8], keys: &[u64], table: &[u64], buffers: &[u64]) -> Loaded
+fn decide(image: &[u8], keys: &[u64], table: &[u64], buffers: &[u64]) -> Result<Sizes, Refusal>
     ensures { result ≡ load_of image.now keys.now table.now buffers.now }
 {
-    let a = image_judge::judge(image);
-    match a {
-        Judged::Well(z) => roomed(z, keys, table, buffers),
-        Judged::Refused(r) => Loaded::Refused(r),
-    }
+    let z = image_judge::judge(image)?;
+    roomed(z, keys, table, buffers)
 }
 
 // What was decided is read into the cells.
-fn carry_out(image: &[u8], keys: &mut [u64], table: &mut [u64], buffers: &mut [u64], a: Loaded)
+fn carry_out(
+    image: &[u8],
+    keys: &mut [u64],
+    table: &mut [u64],
+    buffers: &mut [u64],
+    a: Result<Sizes, Refusal>,
+)
     requires { a ≡ load_of image.now keys.old table.old buffers.old }
     ensures keys { keys.new ≡ keys_by a image.now keys.old }
     ensures table { table.new ≡ table_by a image.now table.old }
     ensures buffers { buffers.new ≡ buffers_by a image.now buffers.old }
 {
     match a {
-        Loaded::Store { e, b, n, s } => {
-            image_fill::fill(image, Sizes { e, b, n, s }, keys, table, buffers);
+        Ok(z) => {
+            image_fill::fill(image, z, keys, table, buffers);
         }
-        Loaded::Refused(r) => {}
+        Err(r) => {}
     }
 }
 
 // Reads an image of the first edition into the slices: refusals 10 (head), 1, 10 (rest), 6, 7; else exactly the used cells are set.
-pub fn read_image(image: &[u8], keys: &mut [u64], table: &mut [u64], buffers: &mut [u64]) -> Loaded
+pub fn read_image(
+    image: &[u8],
+    keys: &mut [u64],
+    table: &mut [u64],
+    buffers: &mut [u64],
+) -> Result<Sizes, Refusal>
     ensures answered { result ≡ load_of image.now keys.old table.old buffers.old }
     ensures keys { keys.new ≡ keys_by result image.now keys.old }
     ensures table { table.new ≡ table_by result image.now table.old }

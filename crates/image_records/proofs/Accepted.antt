@@ -1,5 +1,6 @@
 -- What is read can be written: an image that the reader accepts is good.
 -- Assumes nothing.
+use Rattle.std.specs.Prelude.{Ok}
 use mathlib.Core.Path.{◌≡◌, refl, sym, ap, ◌∙◌}
 use mathlib.Core.List.{List}
 use Prim.Native.Nat.{ℕ, zero, suc, ◌+◌}
@@ -8,7 +9,6 @@ use Rattle.lists.proofs.Tests.{either}
 use Rattle.image_little.specs.Little.{Bytes}
 use Rattle.image_records.specs.Records.{kind_of, size, stands_at, record_at, walk_of, many_at, after_of, and_then}
 use Rattle.image_records.specs.Images.{Edition, layout_of, held_at, part_of, parts_of, end_of, rest_of, part_at, after_part, parts_at, head_at, image_at, well_of, GoodPart, GoodParts, Good, Proper}
-use Rattle.image_records.specs.declared.Walked.TheVariants.{Past}
 use Rattle.image_records.proofs.Records.{no_fault, walk_after, fields_fit, many_fit, many_length}
 use Rattle.image_records.proofs.Images.{then_past, part_after}
 use Rattle.image_records.proofs.Inside.{part_few}
@@ -19,7 +19,7 @@ module _ (l : List ℕ) (small : Bytes l) where
     unfolding held_at
     held_is at = proper.held_fifth l at
 
-    pub part_good : (b at z : ℕ) → part_of (layout_of ed) b l at ≡ Past z → GoodPart ed b (part_at ed l at)
+    pub part_good : (b at z : ℕ) → part_of (layout_of ed) b l at ≡ Ok z → GoodPart ed b (part_at ed l at)
     part_good b at z e =
         let n : length (many_at ed.buffered.widths l (held_at (layout_of ed) l at) (at + size ed.segment)) ≡ held_at (layout_of ed) l at =
         many_length l ed.buffered.widths (held_at (layout_of ed) l at) (at + size ed.segment) in
@@ -30,7 +30,7 @@ module _ (l : List ℕ) (small : Bytes l) where
           few = rw n (part_few (layout_of ed) b l at z e);
         }
 
-    pub parts_good : (b s at z : ℕ) → parts_of (layout_of ed) b l s at ≡ Past z → GoodParts ed b (parts_at ed l s at)
+    pub parts_good : (b s at z : ℕ) → parts_of (layout_of ed) b l s at ≡ Ok z → GoodParts ed b (parts_at ed l s at)
     unfolding parts_of parts_at
     parts_good b zero at z e = tt
     parts_good b (suc s) at z e =
@@ -44,7 +44,7 @@ module _ (l : List ℕ) (small : Bytes l) where
     parts_length zero at = refl
     parts_length (suc s) at = ap suc (parts_length s (after_part ed l at))
 
-    pub read_good : (z : ℕ) → well_of ed l ≡ Past z → Good ed (image_at ed l)
+    pub read_good : (z : ℕ) → well_of ed l ≡ Ok z → Good ed (image_at ed l)
     unfolding well_of image_at rest_of
     read_good z e =
         either (stands_at (kind_of ed.head) l 0)
@@ -52,7 +52,7 @@ module _ (l : List ℕ) (small : Bytes l) where
         let n : ℕ = get_or (head_at ed l) 2 0 in
         let s : ℕ = get_or (head_at ed l) 3 0 in
         let b : ℕ = get_or (head_at ed l) 1 0 in
-        let e1 : rest_of (layout_of ed) l b n s (size ed.head) ≡ Past z = simp t at e in
+        let e1 : rest_of (layout_of ed) l b n s (size ed.head) ≡ Ok z = simp t at e in
         then_past (walk_of (kind_of ed.key) l n (size ed.head)) (λ m. and_then (parts_of (layout_of ed) b l s m) (λ q. end_of (layout_of ed) l q)) z e1
         (λ m walked next. then_past (parts_of (layout_of ed) b l s m) (λ q. end_of (layout_of ed) l q) z next
         (λ q done last.

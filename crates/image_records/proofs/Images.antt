@@ -1,5 +1,6 @@
 -- The round trips of the stored form, over any edition.
 -- Assumes nothing.
+use Rattle.std.specs.Prelude.{Result, Ok, Err}
 use mathlib.Core.Path.{◌≡◌, refl, sym, ap, ◌∙◌}
 use mathlib.Core.Bool.{true}
 use mathlib.Core.List.{List, [], ◌∷◌, ◌++◌, append_assoc, append-nil}
@@ -13,14 +14,12 @@ use Rattle.lists.proofs.Tests.{all_each, each_all, either}
 use Rattle.image_little.specs.Little.{Bytes}
 use Rattle.image_records.specs.Records.{kind_of, record_bytes, many_bytes, size, stands_at, fields_at, record_at, walk_of, many_at, after_of, and_then, Fit}
 use Rattle.image_records.specs.Images.{Edition, layout_of, Part, Image, part_bytes, image_bytes, held_at, segment_at, part_of, parts_of, end_of, rest_of, part_at, after_part, parts_at, head_at, image_at, well_of, GoodPart, GoodParts, Good, Proper}
-use Rattle.image_records.specs.declared.Walked.{Walked}
-use Rattle.image_records.specs.declared.Walked.TheVariants.{Past, Fault}
 use Rattle.image_records.proofs.Records.{record_past, record_forth, record_stands, record_back, no_fault, many_past, many_walk, many_forth, walk_after, many_back}
 
 -- a sequence of walks that ends: both end
-pub then_past : {C : Type 0} (w : Walked) (f : ℕ → Walked) (z : ℕ) → and_then w f ≡ Past z → ((m : ℕ) → w ≡ Past m → f m ≡ Past z → C) → C
-then_past (Past m) f z e k = k m refl e
-then_past (Fault p) f z e k = no_fault p z e
+pub then_past : {C : Type 0} (w : Result ℕ ℕ) (f : ℕ → Result ℕ ℕ) (z : ℕ) → and_then w f ≡ Ok z → ((m : ℕ) → w ≡ Ok m → f m ≡ Ok z → C) → C
+then_past (Ok m) f z e k = k m refl e
+then_past (Err p) f z e k = no_fault p z e
 
 image_is : (ed : Edition) (v : Image) → image_bytes ed v ≡ record_bytes ed.head v.head ++ (many_bytes ed.key v.keys ++ (part_bytes ed v.parts ++ record_bytes ed.end []))
 unfolding image_bytes
@@ -43,7 +42,7 @@ module _ (ed : Edition) (proper : Proper ed) (l : List ℕ) where
     pub part_past : drop (after_part ed l at) l ≡ rest
     part_past = rw held_is (many_past ed.buffered l p.held rest (at + size ed.segment) keys_next g.fit)
 
-    pub part_walk : part_of (layout_of ed) b l at ≡ Past (after_part ed l at)
+    pub part_walk : part_of (layout_of ed) b l at ≡ Ok (after_part ed l at)
     unfolding part_of segment_at
     part_walk =
         let few : held_at (layout_of ed) l at < b = rw held_is g.few in
@@ -55,7 +54,7 @@ module _ (ed : Edition) (proper : Proper ed) (l : List ℕ) where
     pub part_forth : part_at ed l at ≡ p
     part_forth = rw (held_is, numbers_is, many_forth ed.buffered l p.held rest (at + size ed.segment) keys_next g.fit)
 
-  pub part_back : (b at z : ℕ) → part_of (layout_of ed) b l at ≡ Past z → Bytes l
+  pub part_back : (b at z : ℕ) → part_of (layout_of ed) b l at ≡ Ok z → Bytes l
       → drop at l ≡ record_bytes ed.segment (part_at ed l at).numbers ++ (many_bytes ed.buffered (part_at ed l at).held ++ drop z l)
   unfolding part_of segment_at
   part_back b at z e small =
@@ -67,7 +66,7 @@ module _ (ed : Edition) (proper : Proper ed) (l : List ℕ) where
       (many_back ed.buffered l (held_at (layout_of ed) l at) (at + size ed.segment) z (simp t at e) small))
       (λ t. no_fault at z (simp t at e))
 
-  pub part_after : (b at z : ℕ) → part_of (layout_of ed) b l at ≡ Past z → z ≡ after_part ed l at
+  pub part_after : (b at z : ℕ) → part_of (layout_of ed) b l at ≡ Ok z → z ≡ after_part ed l at
   unfolding part_of
   part_after b at z e =
       either (segment_at (layout_of ed) b l at) (λ t. walk_after ed.buffered l (held_at (layout_of ed) l at) (at + size ed.segment) z (simp t at e))
@@ -76,19 +75,19 @@ module _ (ed : Edition) (proper : Proper ed) (l : List ℕ) where
   -- ---- all the segments
   module _ (b : ℕ) where
     pub parts_forth : (ps : List Part) → GoodParts ed b ps → (rest : List ℕ) (at : ℕ) → drop at l ≡ part_bytes ed ps ++ rest
-        → {C : Type 0} → ((z : ℕ) → parts_of (layout_of ed) b l (length ps) at ≡ Past z → drop z l ≡ rest → parts_at ed l (length ps) at ≡ ps → C) → C
+        → {C : Type 0} → ((z : ℕ) → parts_of (layout_of ed) b l (length ps) at ≡ Ok z → drop z l ≡ rest → parts_at ed l (length ps) at ≡ ps → C) → C
     unfolding part_bytes parts_of parts_at
     parts_forth [] g rest at e k = k at refl e refl
     parts_forth (p ∷ ps) g rest at e k =
         let f : drop at l ≡ record_bytes ed.segment p.numbers ++ (many_bytes ed.buffered p.held ++ (part_bytes ed ps ++ rest)) =
         e ∙ append_assoc (record_bytes ed.segment p.numbers) (many_bytes ed.buffered p.held ++ part_bytes ed ps) rest ∙
         ap (λ (r : List ℕ). record_bytes ed.segment p.numbers ++ r) (append_assoc (many_bytes ed.buffered p.held) (part_bytes ed ps) rest) in
-        let w : part_of (layout_of ed) b l at ≡ Past (after_part ed l at) = part_walk b p g.0 (part_bytes ed ps ++ rest) at f in
+        let w : part_of (layout_of ed) b l at ≡ Ok (after_part ed l at) = part_walk b p g.0 (part_bytes ed ps ++ rest) at f in
         let q : part_at ed l at ≡ p = part_forth b p g.0 (part_bytes ed ps ++ rest) at f in
         parts_forth ps g.1 rest (after_part ed l at) (part_past b p g.0 (part_bytes ed ps ++ rest) at f)
         (λ z walked past same. k z (simp w walked) past (ap (λ (x : Part). x ∷ parts_at ed l (length ps) (after_part ed l at)) q ∙ ap (λ (xs : List Part). p ∷ xs) same))
 
-    pub parts_back : (s at z : ℕ) → parts_of (layout_of ed) b l s at ≡ Past z → Bytes l → drop at l ≡ part_bytes ed (parts_at ed l s at) ++ drop z l
+    pub parts_back : (s at z : ℕ) → parts_of (layout_of ed) b l s at ≡ Ok z → Bytes l → drop at l ≡ part_bytes ed (parts_at ed l s at) ++ drop z l
     unfolding part_bytes parts_of parts_at
     parts_back zero at z e small = ap (λ (k : ℕ). drop k l) (let q : at ≡ z = cc in q)
     parts_back (suc s) at z e small =
@@ -110,7 +109,7 @@ module _ (ed : Edition) (proper : Proper ed) (l : List ℕ) where
   no_fields [] at h = refl
   no_fields (w ∷ ws) at h = absurd h
 
-  pub end_forth : (at : ℕ) → drop at l ≡ record_bytes ed.end [] → end_of (layout_of ed) l at ≡ Past (at + size ed.end)
+  pub end_forth : (at : ℕ) → drop at l ≡ record_bytes ed.end [] → end_of (layout_of ed) l at ≡ Ok (at + size ed.end)
   unfolding end_of
   end_forth at e =
       let f : drop at l ≡ record_bytes ed.end [] ++ [] = e ∙ sym (append-nil (record_bytes ed.end [])) in
@@ -119,7 +118,7 @@ module _ (ed : Edition) (proper : Proper ed) (l : List ℕ) where
       let t : leb (length l) (at + size ed.end) ≡ true = le-leb (length l) (at + size ed.end) (omega (arith, n)) in
       simp (record_stands ed.end l [] [] at f proper.end_empty, t)
 
-  pub end_back : (at z : ℕ) → end_of (layout_of ed) l at ≡ Past z → Bytes l → drop at l ≡ record_bytes ed.end []
+  pub end_back : (at z : ℕ) → end_of (layout_of ed) l at ≡ Ok z → Bytes l → drop at l ≡ record_bytes ed.end []
   unfolding end_of
   end_back at z e small =
       either (stands_at (kind_of ed.end) l at)
@@ -134,7 +133,7 @@ module _ (ed : Edition) (proper : Proper ed) (l : List ℕ) where
 module _ (ed : Edition) (proper : Proper ed) where
   -- what was written is read
   module _ (v : Image) (g : Good ed v) {C : Type 0} where
-    pub read_written : ((z : ℕ) → well_of ed (image_bytes ed v) ≡ Past z → image_at ed (image_bytes ed v) ≡ v → C) → C
+    pub read_written : ((z : ℕ) → well_of ed (image_bytes ed v) ≡ Ok z → image_at ed (image_bytes ed v) ≡ v → C) → C
     unfolding well_of image_at rest_of
     read_written k =
         let l : List ℕ = image_bytes ed v in
@@ -148,7 +147,7 @@ module _ (ed : Edition) (proper : Proper ed) where
         let n : get_or (head_at ed l) 2 0 ≡ length v.keys = ap (λ (xs : List ℕ). get_or xs 2 0) head ∙ g.keys_count in
         let s : get_or (head_at ed l) 3 0 ≡ length v.parts = ap (λ (xs : List ℕ). get_or xs 3 0) head ∙ g.parts_count in
         let b : get_or (head_at ed l) 1 0 ≡ get_or v.head 1 0 = ap (λ (xs : List ℕ). get_or xs 1 0) head in
-        let walked : walk_of (kind_of ed.key) l (length v.keys) (size ed.head) ≡ Past (after_of (kind_of ed.key) (length v.keys) (size ed.head)) =
+        let walked : walk_of (kind_of ed.key) l (length v.keys) (size ed.head) ≡ Ok (after_of (kind_of ed.key) (length v.keys) (size ed.head)) =
         many_walk ed.key l v.keys (parts ++ record_bytes ed.end []) (size ed.head) e1 g.keys_fit in
         let same : many_at ed.key.widths l (length v.keys) (size ed.head) ≡ v.keys =
         many_forth ed.key l v.keys (parts ++ record_bytes ed.end []) (size ed.head) e1 g.keys_fit in
@@ -158,7 +157,7 @@ module _ (ed : Edition) (proper : Proper ed) where
         k (z + size ed.end) (simp (stands, n, s, b, walked, done, end_forth ed proper l z past)) (simp (head, g.keys_count, g.parts_count, same, parts_same)))
 
   -- what is read is written back, byte for byte
-  pub written_read : (l : List ℕ) (z : ℕ) → Bytes l → well_of ed l ≡ Past z → image_bytes ed (image_at ed l) ≡ l
+  pub written_read : (l : List ℕ) (z : ℕ) → Bytes l → well_of ed l ≡ Ok z → image_bytes ed (image_at ed l) ≡ l
   unfolding well_of image_at rest_of
   written_read l z small e =
       either (stands_at (kind_of ed.head) l 0)
@@ -166,7 +165,7 @@ module _ (ed : Edition) (proper : Proper ed) where
       let n : ℕ = get_or (head_at ed l) 2 0 in
       let s : ℕ = get_or (head_at ed l) 3 0 in
       let b : ℕ = get_or (head_at ed l) 1 0 in
-      let e1 : rest_of (layout_of ed) l b n s (size ed.head) ≡ Past z = simp t at e in
+      let e1 : rest_of (layout_of ed) l b n s (size ed.head) ≡ Ok z = simp t at e in
       then_past (walk_of (kind_of ed.key) l n (size ed.head)) (λ m. and_then (parts_of (layout_of ed) b l s m) (λ q. end_of (layout_of ed) l q)) z e1
       (λ m walked next. then_past (parts_of (layout_of ed) b l s m) (λ q. end_of (layout_of ed) l q) z next
       (λ q done last.

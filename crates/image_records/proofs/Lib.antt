@@ -5,3 +5,4 @@ pub mod Meaning
 pub mod Accepted
 pub mod First
 pub mod Filled
+pub mod Five

@@ -1,5 +1,6 @@
 -- A walk along the records ends where the order of the image says, and nothing else answers to that.
 -- Assumes nothing.
+use Rattle.std.specs.Prelude.{Result, Ok, Err}
 use mathlib.Core.Path.{◌≡◌, refl, sym, ap, ◌∙◌}
 use mathlib.Core.Bool.{true, false}
 use mathlib.Core.List.{List, [], ◌∷◌}
@@ -15,8 +16,6 @@ use Rattle.image_records.specs.Images.{held_at, segment_at, part_of, parts_of, e
 use Rattle.image_records.specs.Meaning.{Row, RowBroken, Segment, Whole, Broken, segment_broken, key_broken, segment_place, Segments, SegmentsBroken, Body, end_place, Rest, whole, run_broken, segments_broken, end_broken, more_bytes}
 use Rattle.image_records.specs.declared.Kind.{Kind}
 use Rattle.image_records.specs.declared.Layout.{Layout}
-use Rattle.image_records.specs.declared.Walked.{Walked}
-use Rattle.image_records.specs.declared.Walked.TheVariants.{Past, Fault}
 use Rattle.image_records.proofs.Records.{stands_true, true_stands}
 
 falls : {k : Kind} {l : List ℕ} {at : ℕ} → stands_at k l at ≡ false → Stands k l at → ⊥
@@ -31,9 +30,9 @@ lowest_one P i j a x c y =
 -- ---- a row of records
 
 -- where a walk along a row ends
-abbrev Ended : Kind → List ℕ → ℕ → ℕ → Walked → Type 0
-Ended k l count at (Past z) = Row k l at count × (z ≡ after_of k count at)
-Ended k l count at (Fault p) = RowBroken k l at count p
+abbrev Ended : Kind → List ℕ → ℕ → ℕ → Result ℕ ℕ → Type 0
+Ended k l count at (Ok z) = Row k l at count × (z ≡ after_of k count at)
+Ended k l count at (Err p) = RowBroken k l at count p
 
 module _ (k : Kind) (l : List ℕ) where
   after_zero : (at : ℕ) → after_of k 0 at ≡ at
@@ -49,9 +48,9 @@ module _ (k : Kind) (l : List ℕ) where
   row_more count at here rest zero h = rw (after_zero at) here
   row_more count at here rest (suc j) h = rw (after_suc j at) (rest j (omega arith))
 
-  ended_more : (count at : ℕ) → Stands k l at → (w : Walked) → Ended k l count (at + k.size) w → Ended k l (suc count) at w
-  ended_more count at here (Past z) e = (row_more count at here e.0, e.1 ∙ sym (after_suc count at))
-  ended_more count at here (Fault p) e =
+  ended_more : (count at : ℕ) → Stands k l at → (w : Result ℕ ℕ) → Ended k l count (at + k.size) w → Ended k l (suc count) at w
+  ended_more count at here (Ok z) e = (row_more count at here e.0, e.1 ∙ sym (after_suc count at))
+  ended_more count at here (Err p) e =
       record {
         number = suc e.number;
         below = omega (arith, e.below);
@@ -78,9 +77,9 @@ module _ (k : Kind) (l : List ℕ) where
 
 -- ---- a segment and its buffered keys
 
-abbrev PartEnded : Layout → ℕ → List ℕ → ℕ → Walked → Type 0
-PartEnded f b l at (Past z) = Whole f b l at × (z ≡ after_of f.buffered (held_at f l at) (at + f.segment.size))
-PartEnded f b l at (Fault p) = Broken f b l at p
+abbrev PartEnded : Layout → ℕ → List ℕ → ℕ → Result ℕ ℕ → Type 0
+PartEnded f b l at (Ok z) = Whole f b l at × (z ≡ after_of f.buffered (held_at f l at) (at + f.segment.size))
+PartEnded f b l at (Err p) = Broken f b l at p
 
 module _ (f : Layout) (b : ℕ) (l : List ℕ) where
   segment_true : (at : ℕ) → segment_at f b l at ≡ true → Segment f b l at
@@ -94,9 +93,9 @@ module _ (f : Layout) (b : ℕ) (l : List ℕ) where
   true_segment at h =
       each_all (stands_at f.segment l at ∷ (ltb (held_at f l at) b ∷ [])) (true_stands f.segment l at h.stands, (lt-ltb (held_at f l at) b h.few, tt))
 
-  keys_ended : (at : ℕ) → Segment f b l at → (w : Walked) → Ended f.buffered l (held_at f l at) (at + f.segment.size) w → PartEnded f b l at w
-  keys_ended at g (Past z) e = (record { segment = g; keys = e.0 }, e.1)
-  keys_ended at g (Fault p) e = key_broken g e
+  keys_ended : (at : ℕ) → Segment f b l at → (w : Result ℕ ℕ) → Ended f.buffered l (held_at f l at) (at + f.segment.size) w → PartEnded f b l at w
+  keys_ended at g (Ok z) e = (record { segment = g; keys = e.0 }, e.1)
+  keys_ended at g (Err p) e = key_broken g e
 
   pub part_ended : (at : ℕ) → PartEnded f b l at (part_of f b l at)
   unfolding part_of
@@ -132,13 +131,13 @@ module _ (f : Layout) (b : ℕ) (l : List ℕ) where
   segments_more s at here rest zero h = rw (place_zero at) here
   segments_more s at here rest (suc i) h = rw (place_suc i at) (rest i (omega arith))
 
-  abbrev SegmentsEnded : ℕ → ℕ → Walked → Type 0
-  SegmentsEnded s at (Past z) = Segments f b l at s × (z ≡ segment_place f l s at)
-  SegmentsEnded s at (Fault p) = SegmentsBroken f b l at s p
+  abbrev SegmentsEnded : ℕ → ℕ → Result ℕ ℕ → Type 0
+  SegmentsEnded s at (Ok z) = Segments f b l at s × (z ≡ segment_place f l s at)
+  SegmentsEnded s at (Err p) = SegmentsBroken f b l at s p
 
-  parts_more : (s at : ℕ) → Whole f b l at → (w : Walked) → SegmentsEnded s (next at) w → SegmentsEnded (suc s) at w
-  parts_more s at here (Past z) e = (segments_more s at here e.0, e.1 ∙ sym (place_suc s at))
-  parts_more s at here (Fault p) e =
+  parts_more : (s at : ℕ) → Whole f b l at → (w : Result ℕ ℕ) → SegmentsEnded s (next at) w → SegmentsEnded (suc s) at w
+  parts_more s at here (Ok z) e = (segments_more s at here e.0, e.1 ∙ sym (place_suc s at))
+  parts_more s at here (Err p) e =
       record {
         number = suc e.number;
         below = omega (arith, e.below);
@@ -146,10 +145,10 @@ module _ (f : Layout) (b : ℕ) (l : List ℕ) where
         here = rw (place_suc e.number at) e.here;
       }
 
-  part_then : (s at : ℕ) → SegmentsEnded s (next at) (parts_of f b l s (next at)) → (w : Walked) → PartEnded f b l at w →
+  part_then : (s at : ℕ) → SegmentsEnded s (next at) (parts_of f b l s (next at)) → (w : Result ℕ ℕ) → PartEnded f b l at w →
       SegmentsEnded (suc s) at (and_then w (λ z. parts_of f b l s z))
-  part_then s at rest (Past z) e = rw e.1 (parts_more s at e.0 (parts_of f b l s (next at)) rest)
-  part_then s at rest (Fault p) e = record { number = 0; below = omega arith; before = λ i h. absurd (not-suc-le-zero h); here = rw (place_zero at) e }
+  part_then s at rest (Ok z) e = rw e.1 (parts_more s at e.0 (parts_of f b l s (next at)) rest)
+  part_then s at rest (Err p) e = record { number = 0; below = omega arith; before = λ i h. absurd (not-suc-le-zero h); here = rw (place_zero at) e }
 
   pub parts_ended : (s at : ℕ) → SegmentsEnded s at (parts_of f b l s at)
   unfolding parts_of
@@ -180,13 +179,13 @@ module _ (f : Layout) (l : List ℕ) (b n s at : ℕ) where
       (λ u. simp (t, u) (more_bytes g (stands_true f.end l last t) (leb-false (length l) (last + f.end.size) u))))
       (λ t. simp t (end_broken g (falls t)))
 
-  segments_ended : Row f.key l at n → (w : Walked) → SegmentsEnded f b l s (after_of f.key n at) w → Rest f l b n s at (and_then w (λ z. end_of f l z))
-  segments_ended r (Past z) e = rw e.1 (body_ended (record { keys = r; segments = e.0 }))
-  segments_ended r (Fault p) e = segments_broken r e
+  segments_ended : Row f.key l at n → (w : Result ℕ ℕ) → SegmentsEnded f b l s (after_of f.key n at) w → Rest f l b n s at (and_then w (λ z. end_of f l z))
+  segments_ended r (Ok z) e = rw e.1 (body_ended (record { keys = r; segments = e.0 }))
+  segments_ended r (Err p) e = segments_broken r e
 
-  run_ended : (w : Walked) → Ended f.key l n at w → Rest f l b n s at (and_then w (λ k. and_then (parts_of f b l s k) (λ z. end_of f l z)))
-  run_ended (Past z) e = rw e.1 (segments_ended e.0 (parts_of f b l s (after_of f.key n at)) (parts_ended f b l s (after_of f.key n at)))
-  run_ended (Fault p) e = run_broken e
+  run_ended : (w : Result ℕ ℕ) → Ended f.key l n at w → Rest f l b n s at (and_then w (λ k. and_then (parts_of f b l s k) (λ z. end_of f l z)))
+  run_ended (Ok z) e = rw e.1 (segments_ended e.0 (parts_of f b l s (after_of f.key n at)) (parts_ended f b l s (after_of f.key n at)))
+  run_ended (Err p) e = run_broken e
 
   -- the walk ends where it should
   pub rest_is : Rest f l b n s at (rest_of f l b n s at)
@@ -194,20 +193,20 @@ module _ (f : Layout) (l : List ℕ) (b n s at : ℕ) where
   rest_is = run_ended (walk_of f.key l n at) (walk_ended f.key l n at)
 
   -- and there is one such end
-  pub rest_one : (v w : Walked) → Rest f l b n s at v → Rest f l b n s at w → v ≡ w
+  pub rest_one : (v w : Result ℕ ℕ) → Rest f l b n s at v → Rest f l b n s at w → v ≡ w
   rest_one v w (whole g x h) (whole g' x' h') = refl
   rest_one v w (whole g x h) (run_broken {p} y) = absurd (row_clash f.key l n at p g.keys y)
   rest_one v w (whole g x h) (segments_broken {p} r y) = absurd (segments_clash f b l s (after_of f.key n at) p g.segments y)
   rest_one v w (whole g x h) (end_broken g' y) = absurd (y x)
   rest_one v w (whole g x h) (more_bytes g' y k) = absurd (omega arith)
   rest_one v w (run_broken {p} x) (whole g' y h') = absurd (row_clash f.key l n at p g'.keys x)
-  rest_one v w (run_broken {p} x) (run_broken {p = q} y) = ap Fault (row_one f.key l n at p q x y)
+  rest_one v w (run_broken {p} x) (run_broken {p = q} y) = ap Err (row_one f.key l n at p q x y)
   rest_one v w (run_broken {p} x) (segments_broken r y) = absurd (row_clash f.key l n at p r x)
   rest_one v w (run_broken {p} x) (end_broken g' y) = absurd (row_clash f.key l n at p g'.keys x)
   rest_one v w (run_broken {p} x) (more_bytes g' y k) = absurd (row_clash f.key l n at p g'.keys x)
   rest_one v w (segments_broken {p} r x) (whole g' y h') = absurd (segments_clash f b l s (after_of f.key n at) p g'.segments x)
   rest_one v w (segments_broken r x) (run_broken {p = q} y) = absurd (row_clash f.key l n at q r y)
-  rest_one v w (segments_broken {p} r x) (segments_broken {p = q} r' y) = ap Fault (segments_one f b l s (after_of f.key n at) p q x y)
+  rest_one v w (segments_broken {p} r x) (segments_broken {p = q} r' y) = ap Err (segments_one f b l s (after_of f.key n at) p q x y)
   rest_one v w (segments_broken {p} r x) (end_broken g' y) = absurd (segments_clash f b l s (after_of f.key n at) p g'.segments x)
   rest_one v w (segments_broken {p} r x) (more_bytes g' y k) = absurd (segments_clash f b l s (after_of f.key n at) p g'.segments x)
   rest_one v w (end_broken g x) (whole g' y h') = absurd (x y)

@@ -1,6 +1,7 @@
 -- One record, and a row of records of one shape: read what was written (`-forth`), write what was read (`-back`). Over any widths.
 -- Every law is about the bytes from an offset on, `drop at l ≡ written ++ rest`, so that laws chain with no length of what stands before.
 -- Assumes nothing.
+use Rattle.std.specs.Prelude.{Ok, Err}
 use mathlib.Core.Path.{◌≡◌, refl, sym, ap, ◌∙◌}
 use mathlib.Core.Bool.{Bool, true, false}
 use mathlib.Core.List.{List, [], ◌∷◌, ◌++◌, append_assoc}
@@ -18,7 +19,6 @@ use Rattle.image_little.specs.Little.{number_bytes, get_at, Bytes}
 use Rattle.image_little.proofs.Round.{number_length, number_forth, number_back, number_small}
 use Rattle.image_records.specs.Records.{Shape, kind_of, field_bytes, record_bytes, many_bytes, total, size, Stands, stands_at, fields_at, record_at, walk_of, many_at, after_of, fits_of, Fit, FitAll}
 use Rattle.image_records.specs.declared.Kind.{Kind}
-use Rattle.image_records.specs.declared.Walked.TheVariants.{Past, Fault}
 
 -- ---- the tests as facts
 
@@ -127,7 +127,7 @@ module _ (sh : Shape) (l : List ℕ) where
       let s : suc at + total sh.widths ≡ at + size sh = omega arith in
       drop-cons l at 0 (omega arith) ∙ rw k (ap (λ (r : List ℕ). sh.kind ∷ r) (rw s at body))
 
-pub no_fault : {C : Type 0} (p z : ℕ) → Fault p ≡ Past z → C
+pub no_fault : {C : Type 0} (p z : ℕ) → Err p ≡ Ok z → C
 no_fault p z e = absurd (let q : ◌≡◌ {A = ℕ} 0 1 = cc in omega arith)
 
 -- ---- a row of records of one shape
@@ -141,7 +141,7 @@ module _ (sh : Shape) (l : List ℕ) where
       (record_past sh l r (many_bytes sh rs ++ rest) at (e ∙ append_assoc (record_bytes sh r) (many_bytes sh rs) rest) h.0) h.1
 
   pub many_walk : (rs : List (List ℕ)) (rest : List ℕ) (at : ℕ) → drop at l ≡ many_bytes sh rs ++ rest → FitAll sh.widths rs
-      → walk_of (kind_of sh) l (length rs) at ≡ Past (after_of (kind_of sh) (length rs) at)
+      → walk_of (kind_of sh) l (length rs) at ≡ Ok (after_of (kind_of sh) (length rs) at)
   unfolding many_bytes after_of walk_of
   many_walk [] rest at e h = refl
   many_walk (r ∷ rs) rest at e h =
@@ -161,13 +161,13 @@ module _ (sh : Shape) (l : List ℕ) where
       )
 
   -- a walk that ends ends after the records
-  pub walk_after : (count at z : ℕ) → walk_of (kind_of sh) l count at ≡ Past z → z ≡ after_of (kind_of sh) count at
+  pub walk_after : (count at z : ℕ) → walk_of (kind_of sh) l count at ≡ Ok z → z ≡ after_of (kind_of sh) count at
   unfolding walk_of after_of
   walk_after zero at z e = cc
   walk_after (suc count) at z e =
       either (stands_at (kind_of sh) l at) (λ t. walk_after count (at + size sh) z (simp t at e)) (λ t. no_fault at z (simp t at e))
 
-  pub many_back : (count at z : ℕ) → walk_of (kind_of sh) l count at ≡ Past z → Bytes l → drop at l ≡ many_bytes sh (many_at sh.widths l count at) ++ drop z l
+  pub many_back : (count at z : ℕ) → walk_of (kind_of sh) l count at ≡ Ok z → Bytes l → drop at l ≡ many_bytes sh (many_at sh.widths l count at) ++ drop z l
   unfolding walk_of many_bytes many_at
   many_back zero at z e small = ap (λ (k : ℕ). drop k l) (let q : at ≡ z = cc in q)
   many_back (suc count) at z e small =

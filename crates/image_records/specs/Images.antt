@@ -1,12 +1,11 @@
 -- 01, "Order: head, n of kind 2, then per segment a kind 3 and as many kind 4 as it holds, then the end and no further byte."
 -- Over any edition: which kinds and widths there are is data (First.antt).
+use Rattle.std.specs.Prelude.{Result, Ok, Err}
 use Rattle.std.specs.Prelude.{◌≡◌, Bool, List, [], ◌∷◌, ◌++◌, ℕ, zero, suc, ◌+◌, ◌<◌, leb, ltb, length, get_or}
 use Rattle.lists.specs.Tests.{pick, all}
 use Rattle.image_little.specs.Little.{get_at}
 use Rattle.image_records.specs.Records.{Shape, kind_of, record_bytes, many_bytes, size, stands_at, record_at, walk_of, many_at, after_of, and_then, Fit, FitAll}
 use Rattle.image_records.specs.declared.Layout.{Layout}
-use Rattle.image_records.specs.declared.Walked.{Walked}
-use Rattle.image_records.specs.declared.Walked.TheVariants.{Past, Fault}
 
 -- an edition: the shapes of the five records. A head is e, B, n, s; the fifth number of a segment is held, one byte, `held` bytes on in its record.
 pub record Edition : Type 0 where
@@ -63,22 +62,22 @@ unfoldable pub segment_at : Layout → ℕ → List ℕ → ℕ → Bool
 segment_at f b bytes at = all (stands_at f.segment bytes at ∷ (ltb (held_at f bytes at) b ∷ []))
 
 -- one segment with its buffered keys
-unfoldable pub part_of : Layout → ℕ → List ℕ → ℕ → Walked
+unfoldable pub part_of : Layout → ℕ → List ℕ → ℕ → Result ℕ ℕ
 part_of f b bytes at =
-    pick (segment_at f b bytes at) (walk_of f.buffered bytes (held_at f bytes at) (at + f.segment.size)) (Fault at)
+    pick (segment_at f b bytes at) (walk_of f.buffered bytes (held_at f bytes at) (at + f.segment.size)) (Err at)
 
 -- s of them
-unfoldable pub parts_of : Layout → ℕ → List ℕ → ℕ → ℕ → Walked
-parts_of f b bytes zero at = Past at
+unfoldable pub parts_of : Layout → ℕ → List ℕ → ℕ → ℕ → Result ℕ ℕ
+parts_of f b bytes zero at = Ok at
 parts_of f b bytes (suc s) at = and_then (part_of f b bytes at) (λ z. parts_of f b bytes s z)
 
 -- "the end and no further byte"; "bytes after the end (offset of the first of them)"
-unfoldable pub end_of : Layout → List ℕ → ℕ → Walked
+unfoldable pub end_of : Layout → List ℕ → ℕ → Result ℕ ℕ
 end_of f bytes at =
-    pick (stands_at f.end bytes at) (pick (leb (length bytes) (at + f.end.size)) (Past (at + f.end.size)) (Fault (at + f.end.size))) (Fault at)
+    pick (stands_at f.end bytes at) (pick (leb (length bytes) (at + f.end.size)) (Ok (at + f.end.size)) (Err (at + f.end.size))) (Err at)
 
 -- all that follows the head
-unfoldable pub rest_of : Layout → List ℕ → ℕ → ℕ → ℕ → ℕ → Walked
+unfoldable pub rest_of : Layout → List ℕ → ℕ → ℕ → ℕ → ℕ → Result ℕ ℕ
 rest_of f bytes b n s at =
     and_then (walk_of f.key bytes n at) (λ k. and_then (parts_of f b bytes s k) (λ z. end_of f bytes z))
 
@@ -107,10 +106,10 @@ image_at ed bytes =
     }
 
 -- whether the bytes are an image, but for the limits
-unfoldable pub well_of : Edition → List ℕ → Walked
+unfoldable pub well_of : Edition → List ℕ → Result ℕ ℕ
 well_of ed bytes =
     pick (stands_at (kind_of ed.head) bytes 0)
-    (rest_of (layout_of ed) bytes (get_or (head_at ed bytes) 1 0) (get_or (head_at ed bytes) 2 0) (get_or (head_at ed bytes) 3 0) (size ed.head)) (Fault 0)
+    (rest_of (layout_of ed) bytes (get_or (head_at ed bytes) 1 0) (get_or (head_at ed bytes) 2 0) (get_or (head_at ed bytes) 3 0) (size ed.head)) (Err 0)
 
 -- ---- what the laws ask of an image and of an edition
 

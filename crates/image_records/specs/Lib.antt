@@ -3,3 +3,4 @@ pub mod Images
 pub mod Meaning
 pub mod First
 pub mod Stores
+pub mod Fields

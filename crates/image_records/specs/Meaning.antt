@@ -1,12 +1,11 @@
 -- 10's places, with no walk in them: the first record, in the order of the image, that does not stand, or the first byte after the end.
 -- Over any edition's kinds and lengths.
+use Rattle.std.specs.Prelude.{Result, Ok, Err}
 use Rattle.std.specs.Prelude.{◌≡◌, List, ℕ, zero, suc, ◌+◌, ◌≤◌, ◌<◌, length}
 use Rattle.image_records.specs.Records.{Stands, after_of}
 use Rattle.image_records.specs.Images.{held_at}
 use Rattle.image_records.specs.declared.Kind.{Kind}
 use Rattle.image_records.specs.declared.Layout.{Layout}
-use Rattle.image_records.specs.declared.Walked.{Walked}
-use Rattle.image_records.specs.declared.Walked.TheVariants.{Past, Fault}
 
 -- ---- a row of records of one kind, from `at` on: record j starts after the j before it
 
@@ -67,11 +66,11 @@ abbrev pub end_place : Layout → List ℕ → ℕ → ℕ → ℕ → ℕ
 end_place f l n s at = segment_place f l s (after_of f.key n at)
 
 -- the order of the image: well formed up to its last byte; or the offset of the first fault
-pub data Rest (f : Layout) (l : List ℕ) (b n s at : ℕ) : Walked → Type 0 where
+pub data Rest (f : Layout) (l : List ℕ) (b n s at : ℕ) : Result ℕ ℕ → Type 0 where
   whole : Body f l b n s at → Stands f.end l (end_place f l n s at) → length l ≤ end_place f l n s at + f.end.size →
-      Rest f l b n s at (Past (end_place f l n s at + f.end.size))
-  run_broken : {p : ℕ} → RowBroken f.key l at n p → Rest f l b n s at (Fault p)
-  segments_broken : {p : ℕ} → Row f.key l at n → SegmentsBroken f b l (after_of f.key n at) s p → Rest f l b n s at (Fault p)
-  end_broken : Body f l b n s at → (Stands f.end l (end_place f l n s at) → ⊥) → Rest f l b n s at (Fault (end_place f l n s at))
+      Rest f l b n s at (Ok (end_place f l n s at + f.end.size))
+  run_broken : {p : ℕ} → RowBroken f.key l at n p → Rest f l b n s at (Err p)
+  segments_broken : {p : ℕ} → Row f.key l at n → SegmentsBroken f b l (after_of f.key n at) s p → Rest f l b n s at (Err p)
+  end_broken : Body f l b n s at → (Stands f.end l (end_place f l n s at) → ⊥) → Rest f l b n s at (Err (end_place f l n s at))
   more_bytes : Body f l b n s at → Stands f.end l (end_place f l n s at) → end_place f l n s at + f.end.size < length l →
-      Rest f l b n s at (Fault (end_place f l n s at + f.end.size))
+      Rest f l b n s at (Err (end_place f l n s at + f.end.size))

@@ -1,11 +1,10 @@
 -- 01, "Records: one byte of kind, then a body whose length the kind fixes. Numbers little-endian." A record of any shape, and a row of them.
 -- Writing makes a list of bytes; reading looks into all the bytes at an offset. Nothing here knows which records there are.
+use Rattle.std.specs.Prelude.{Result, Ok, Err}
 use Rattle.std.specs.Prelude.{◌≡◌, Bool, true, false, List, [], ◌∷◌, ◌++◌, ℕ, zero, suc, ◌+◌, ◌^◌, ◌≤◌, ◌<◌, leb, ltb, eqb, length, get_or}
 use Rattle.lists.specs.Tests.{pick, both, all}
 use Rattle.image_little.specs.Little.{number_bytes, get_at}
 use Rattle.image_records.specs.declared.Kind.{Kind}
-use Rattle.image_records.specs.declared.Walked.{Walked}
-use Rattle.image_records.specs.declared.Walked.TheVariants.{Past, Fault}
 
 -- a kind, and the widths of the numbers of its body
 pub record Shape : Type 0 where
@@ -74,14 +73,14 @@ unfoldable pub stands_at : Kind → List ℕ → ℕ → Bool
 stands_at k bytes at = all (leb (at + k.size) (length bytes) ∷ (eqb (get_or bytes at 0) k.kind ∷ []))
 
 -- a walk along `count` records of one kind
-unfoldable pub walk_of : Kind → List ℕ → ℕ → ℕ → Walked
-walk_of k bytes zero at = Past at
-walk_of k bytes (suc count) at = pick (stands_at k bytes at) (walk_of k bytes count (at + k.size)) (Fault at)
+unfoldable pub walk_of : Kind → List ℕ → ℕ → ℕ → Result ℕ ℕ
+walk_of k bytes zero at = Ok at
+walk_of k bytes (suc count) at = pick (stands_at k bytes at) (walk_of k bytes count (at + k.size)) (Err at)
 
 -- one walk, then another from where it ended
-abbrev pub and_then : Walked → (ℕ → Walked) → Walked
-and_then (Past z) next = next z
-and_then (Fault p) next = Fault p
+abbrev pub and_then : Result ℕ ℕ → (ℕ → Result ℕ ℕ) → Result ℕ ℕ
+and_then (Ok z) next = next z
+and_then (Err p) next = Err p
 
 -- the offset after `count` records
 unfoldable pub after_of : Kind → ℕ → ℕ → ℕ

@@ -1,7 +1,7 @@
 -- The cases of writing an image.
 -- Assumes nothing.
+use Rattle.std.specs.Prelude.{Option, Some, None, Ok, Err}
 use mathlib.Core.Path.{◌≡◌, refl, sym, ap, ◌∙◌}
-use mathlib.Core.Bool.{Bool, true, false}
 use mathlib.Core.List.{List, []}
 use Prim.Native.Nat.{ℕ, zero, suc, ◌+◌, ◌-◌, ◌*◌, ◌≤◌, ◌<◌}
 use native.Mathlib.Nat.{mul-le-mul_right, add-mul, one-mul}
@@ -11,17 +11,14 @@ use lib.ListN.{length, get_or, length-append}
 use mir.Syntax.{w64}
 use mir.Val.{Fits}
 use borrow.Author.Tests.{le-leb, lt-leb, leb-true}
-use Rattle.terms.specs.declared.Sizes.{Sizes}
 use Rattle.terms.specs.Limits.{b_most}
 use Rattle.terms.specs.declared.Refusal.{Refusal}
 use Rattle.terms.specs.declared.Refusal.TheVariants.{Limits as OutOfLimits, StoreWrong, OutRoom}
 use Rattle.lists.specs.Over.{over}
 use Rattle.lists.proofs.Tests.{either}
-use Rattle.scan.specs.declared.Found.{Found}
-use Rattle.scan.specs.declared.Found.TheVariants.{At, Nothing}
-use Rattle.table.specs.Store.{Store, store_of}
-use Rattle.table.specs.Limits.{limited_of, Limits}
-use Rattle.table.proofs.Limits.{limits_of}
+use Rattle.table.specs.Store.{Store}
+use Rattle.table.specs.Limits.{limited_of, within_of, Limits}
+use Rattle.table.proofs.Limits.{limits_of, within_true, within_false, within_refusal, within_limits}
 use Rattle.image_records.specs.Images.{image_bytes}
 use Rattle.image_records.specs.First.{first}
 use Rattle.image_records.specs.Stores.{image_in}
@@ -31,8 +28,6 @@ use Rattle.image_fits.specs.Fits.{wrong_of}
 use Rattle.image_fits.proofs.Laws.{Right, right_of, entry_held}
 use Rattle.image_write.specs.Writing.{length_of, fitted_of, judged_of, write_of, out_by}
 use Rattle.image_write.specs.Asks.{parts_size, Sizable, Sizing}
-use Rattle.answers.specs.declared.Written.{Written}
-use Rattle.answers.specs.declared.Written.TheVariants.{Bytes, Refused}
 
 -- ---- image_size
 
@@ -40,88 +35,41 @@ parts_none : (t : List ℕ) (i : ℕ) → parts_size t i 0 ≡ 0
 unfolding parts_size
 parts_none t i = refl
 
-parts_more : (t : List ℕ) (i left : ℕ) → 0 < left → parts_size t i left ≡ 18 + 7 * get_or t (5 * i + 4) 0 + parts_size t (i + 1) (left - 1)
+parts_more : (t : List ℕ) (s i : ℕ) → i < s → parts_size t i (s - i) ≡ 18 + 7 * get_or t (5 * i + 4) 0 + parts_size t (i + 1) (s - (i + 1))
 unfolding parts_size
-parts_more t i zero h = absurd (omega arith)
-parts_more t i (suc left) h = let e : left ≡ suc left - 1 = omega arith in ap (λ (k : ℕ). 18 + 7 * get_or t (5 * i + 4) 0 + parts_size t (i + 1) k) e
+parts_more t s i h = let e : s - i ≡ suc (s - (i + 1)) = omega arith in ap (parts_size t i) e
 
 module _ (b n s : ℕ) (t : List ℕ) (r : Sizable b n s t) where
-  next_few : (i left : ℕ) → i + left ≡ s → 0 < left → get_or t (5 * i + 4) 0 < b_most
-  next_few i left c h = let f : get_or t (5 * i + 4) 0 < b = r.held i (omega arith) in omega (arith, r.small)
+  pub size_start : Sizing s t (10 + 7 * n) (10 + 7 * n) 0
+  size_start = let e : s - 0 ≡ s = omega arith in record { is = rw e; bounded = omega arith }
 
-  pub size_start : Sizing s t (10 + 7 * n) (10 + 7 * n) 0 s
-  size_start = record { is = refl; counts = omega arith; bounded = omega arith; next = next_few 0 s (omega arith) }
-
-  module _ (p i left : ℕ) (w : Sizing s t (10 + 7 * n) p i left) (h : 0 < left) where
-    pub size_read : 5 * i + 4 < length t
-    size_read = omega (arith, w.counts, r.rows)
-
-    pub size_place : Fits w64 (5 * i)
-    size_place = record { fits = omega (arith, w.counts, r.few) }
-
-    pub size_cell : Fits w64 (5 * i + 4)
-    size_cell = record { fits = omega (arith, w.counts, r.few) }
+  module _ (p i : ℕ) (w : Sizing s t (10 + 7 * n) p i) (h : i < s) where
+    few : get_or t (5 * i + 4) 0 < b_most
+    few = let f : get_or t (5 * i + 4) 0 < b = r.held i h in omega (arith, r.small)
 
     module _ {g : ℕ} (held : g ≡ get_or t (5 * i + 4) 0) where
       pub size_product : Fits w64 (7 * g)
-      size_product = record { fits = omega (arith, w.next h) }
+      size_product = record { fits = omega (arith, few) }
 
       pub size_sum : Fits w64 (18 + 7 * g)
-      size_sum = record { fits = omega (arith, w.next h) }
+      size_sum = record { fits = omega (arith, few) }
 
       pub size_more : Fits w64 (p + (18 + 7 * g))
-      size_more = record { fits = omega (arith, w.next h, w.bounded, w.counts, r.few, r.n_limit) }
+      size_more = record { fits = omega (arith, few, w.bounded, r.few, r.n_limit) }
 
-      pub size_turn : Sizing s t (10 + 7 * n) (p + (18 + 7 * g)) (i + 1) (left - 1)
-      size_turn =
-          record {
-            is = omega (arith, w.is, parts_more t i left h);
-            counts = omega (arith, w.counts);
-            bounded = omega (arith, w.next h, w.bounded);
-            next = next_few (i + 1) (left - 1) (omega (arith, w.counts));
-          }
+      pub size_turn : Sizing s t (10 + 7 * n) (p + (18 + 7 * g)) (i + 1)
+      size_turn = record { is = omega (arith, w.is, parts_more t s i h); bounded = omega (arith, few, w.bounded) }
 
-pub size_end : (s : ℕ) (t : List ℕ) (from p i left : ℕ) → Sizing s t from p i left → left ≤ 0 → p ≡ from + parts_size t 0 s
-size_end s t from p i left w h =
-    let e : left ≡ 0 = omega arith in
-    let z : parts_size t i left ≡ 0 = ap (parts_size t i) e ∙ parts_none t i in
+pub size_read : (b n s : ℕ) (t : List ℕ) (i : ℕ) → Sizable b n s t → i < s → 5 * i + 4 < length t
+size_read b n s t i r h = omega (arith, r.rows)
+
+pub size_end : (s : ℕ) (t : List ℕ) (from p i : ℕ) → Sizing s t from p i → s ≤ i → p ≡ from + parts_size t 0 s
+size_end s t from p i w h =
+    let e : s - i ≡ 0 = omega arith in
+    let z : parts_size t i (s - i) ≡ 0 = ap (parts_size t i) e ∙ parts_none t i in
     omega (arith, w.is)
 
-pub ruleset size_cases = (size_start, size_read, size_place, size_cell, size_product, size_sum, size_more, size_turn, size_end)
-
--- ---- fitted
-
-module _ (n s : ℕ) (t : List ℕ) (room : ℕ) {z : ℕ} (sized : z ≡ 10 + 7 * n + parts_size t 0 s) where
-  pub fitted_yes : z ≤ room → Bytes z ≡ fitted_of (10 + 7 * n + parts_size t 0 s) room
-  unfolding fitted_of
-  fitted_yes h = rw (← sized) (simp (le-leb z room h))
-
-  pub fitted_no : room < z → Refused OutRoom ≡ fitted_of (10 + 7 * n + parts_size t 0 s) room
-  unfolding fitted_of
-  fitted_no h = rw (← sized) (simp (lt-leb z room h))
-
-pub ruleset fitted_cases = (fitted_yes, fitted_no)
-
--- ---- judged
-
-module _ (b n s : ℕ) (keys t bs : List ℕ) (room : ℕ) {w : Found} (found : w ≡ wrong_of b n s keys t bs) where
-  pub judged_wrong : {i : ℕ} → w ≡ At i → Refused (StoreWrong i) ≡ judged_of (wrong_of b n s keys t bs) (10 + 7 * n + parts_size t 0 s) room
-  judged_wrong q = simp (sym found ∙ q)
-
-  pub judged_right : w ≡ Nothing → {a : Written} → a ≡ fitted_of (10 + 7 * n + parts_size t 0 s) room → a ≡ judged_of (wrong_of b n s keys t bs) (10 + 7 * n + parts_size t 0 s) room
-  judged_right q e = simp (sym found ∙ q) e
-
-pub fitted_asks : (z : Sizes) (keys t bs : List ℕ) {w : Found} → w ≡ wrong_of z.b z.n z.s keys t bs → w ≡ Nothing → Limits (store_of z keys t bs) → Sizable z.b z.n z.s t
-fitted_asks z keys t bs found q r =
-    record {
-      few = r.s_limit;
-      rows = r.table_holds;
-      small = r.b_limit;
-      n_limit = r.n_limit;
-      held = λ j h. entry_held z.b t bs j ((right_of z.b z.n z.s keys t bs (sym found ∙ q)).entries j h);
-    }
-
-pub ruleset judged_cases = (judged_wrong, judged_right, fitted_asks)
+pub ruleset size_cases = (size_start, size_read, size_product, size_sum, size_more, size_turn, size_end)
 
 -- ---- the length of the image
 
@@ -139,21 +87,48 @@ length_is σ = image_length σ ∙ omega (arith, rest_length σ.b σ.table σ.bu
 
 -- ---- decide
 
-module _ (σ : Store) (room : ℕ) {c : Bool} (limited : c ≡ limited_of σ) where
-  pub limits_refused : c ≡ false → Refused OutOfLimits ≡ write_of σ room
+module _ (σ : Store) (room : ℕ) where
+  pub limits_refused : {r : Refusal} → Err r ≡ within_of σ → Err r ≡ write_of σ room
   unfolding write_of
-  limits_refused q = simp (sym limited ∙ q)
+  limits_refused h = simp (within_false σ h) (ap Err (within_refusal σ h))
 
-  pub decided : c ≡ true → {a : Written} → a ≡ judged_of (wrong_of σ.b σ.n σ.s σ.keys σ.table σ.buffers) (10 + 7 * σ.n + parts_size σ.table 0 σ.s) room
-      → a ≡ write_of σ room
-  unfolding write_of
-  decided q g = simp (sym limited ∙ q) (g ∙ ap (λ (z : ℕ). judged_of (wrong_of σ.b σ.n σ.s σ.keys σ.table σ.buffers) z room) (sym (length_is σ)))
+  module _ (within : Ok tt ≡ within_of σ) where
+    pub wrong_asks : Limits σ
+    wrong_asks = within_limits σ within
 
-pub ruleset decide_cases = (limits_refused, decided, limits_of)
+    module _ {w : Option ℕ} (found : w ≡ wrong_of σ.b σ.n σ.s σ.keys σ.table σ.buffers) where
+      pub wrong_refused : {i : ℕ} → w ≡ Some i → Err (StoreWrong i) ≡ write_of σ room
+      unfolding write_of
+      wrong_refused q = simp (within_true σ within, sym found ∙ q)
+
+      module _ (q : w ≡ None) where
+        pub size_asks : Sizable σ.b σ.n σ.s σ.table
+        size_asks =
+            record {
+              few = wrong_asks.s_limit;
+              rows = wrong_asks.table_holds;
+              small = wrong_asks.b_limit;
+              n_limit = wrong_asks.n_limit;
+              held = λ j h. entry_held σ.b σ.table σ.buffers j ((right_of σ.b σ.n σ.s σ.keys σ.table σ.buffers (sym found ∙ q)).entries j h);
+            }
+
+        module _ {z : ℕ} (sized : z ≡ 10 + 7 * σ.n + parts_size σ.table 0 σ.s) where
+          is_length : length_of σ ≡ z
+          is_length = length_is σ ∙ sym sized
+
+          pub long_refused : room < z → Err OutRoom ≡ write_of σ room
+          unfolding write_of fitted_of
+          long_refused h = simp (within_true σ within, sym found ∙ q, is_length, lt-leb z room h)
+
+          pub length_answered : z ≤ room → Ok z ≡ write_of σ room
+          unfolding write_of fitted_of
+          length_answered h = simp (within_true σ within, sym found ∙ q, is_length, le-leb z room h)
+
+pub ruleset decide_cases = (wrong_asks, wrong_refused, size_asks, long_refused, length_answered)
 
 -- ---- write_image
 
-pub not_both : {C : Type 0} (r : Refusal) (z : ℕ) → Refused r ≡ Bytes z → C
+pub not_both : {C : Type 0} (r : Refusal) (z : ℕ) → Err r ≡ Ok z → C
 not_both r z q = absurd (let z : ◌≡◌ {A = ℕ} 0 1 = cc in omega arith)
 
 -- what an answer with a length tells
@@ -164,21 +139,21 @@ pub record Told (σ : Store) (room z : ℕ) : Type 0 where
   pub space : length_of σ ≤ room
 
 module _ (σ : Store) (room : ℕ) where
-  fitted_told : (z : ℕ) → Limits σ → Right σ.b σ.n σ.s σ.keys σ.table σ.buffers → fitted_of (length_of σ) room ≡ Bytes z → Told σ room z
+  fitted_told : (z : ℕ) → Limits σ → Right σ.b σ.n σ.s σ.keys σ.table σ.buffers → fitted_of (length_of σ) room ≡ Ok z → Told σ room z
   unfolding fitted_of
   fitted_told z l r q =
       either (leb (length_of σ) room)
       (λ t.
-      let p : Bytes (length_of σ) ≡ Bytes z = simp t at q in
+      let p : Ok (length_of σ) ≡ Ok z = simp t at q in
       let e : length_of σ ≡ z = cc in
       record { limits = l; right = r; is = sym e; space = leb-true (length_of σ) room t })
       (λ t. not_both OutRoom z (simp t at q))
 
-  judged_told : (w : Found) (z : ℕ) → wrong_of σ.b σ.n σ.s σ.keys σ.table σ.buffers ≡ w → Limits σ → judged_of w (length_of σ) room ≡ Bytes z → Told σ room z
-  judged_told (At i) z e l q = not_both (StoreWrong i) z q
-  judged_told Nothing z e l q = fitted_told z l (right_of σ.b σ.n σ.s σ.keys σ.table σ.buffers e) q
+  judged_told : (w : Option ℕ) (z : ℕ) → wrong_of σ.b σ.n σ.s σ.keys σ.table σ.buffers ≡ w → Limits σ → judged_of w (length_of σ) room ≡ Ok z → Told σ room z
+  judged_told (Some i) z e l q = not_both (StoreWrong i) z q
+  judged_told None z e l q = fitted_told z l (right_of σ.b σ.n σ.s σ.keys σ.table σ.buffers e) q
 
-  pub written_told : (z : ℕ) → write_of σ room ≡ Bytes z → Told σ room z
+  pub written_told : (z : ℕ) → write_of σ room ≡ Ok z → Told σ room z
   unfolding write_of
   written_told z q =
       either (limited_of σ)
@@ -189,13 +164,10 @@ image_long : (σ : Store) → length_of σ ≡ length (image_bytes first (image_
 unfolding length_of
 image_long σ = refl
 
-module _ (σ : Store) (out : List ℕ) {a : Written} (answer : a ≡ write_of σ (length out)) where
-  pub write_answered : {x : Written} → a ≡ x → x ≡ write_of σ (length out)
-  write_answered q = sym q ∙ answer
-
-  pub put_asks : {z : ℕ} → a ≡ Bytes z → ImageRoom out σ
-  put_asks {z} q =
-      let w : Told σ (length out) z = written_told σ (length out) z (sym answer ∙ q) in
+module _ (σ : Store) (out : List ℕ) {z : ℕ} (answer : Ok z ≡ write_of σ (length out)) where
+  pub put_asks : ImageRoom out σ
+  put_asks =
+      let w : Told σ (length out) z = written_told σ (length out) z (sym answer) in
       record {
         space = omega (arith, image_long σ, w.space);
         limits = w.limits;
@@ -206,7 +178,7 @@ module _ (σ : Store) (out : List ℕ) {a : Written} (answer : a ≡ write_of σ
             omega (arith, w.limits.buffers_hold);
       }
 
-pub out_written : (σ : Store) (out : List ℕ) {l : List ℕ} (z : ℕ) → l ≡ over out 0 (image_bytes first (image_in σ)) → l ≡ out_by (Bytes z) σ out
+pub out_written : (σ : Store) (out : List ℕ) {l : List ℕ} (z : ℕ) → l ≡ over out 0 (image_bytes first (image_in σ)) → l ≡ out_by (Ok z) σ out
 out_written σ out z g = g
 
-pub ruleset write_cases = (write_answered, put_asks, out_written)
+pub ruleset write_cases = (put_asks, out_written)

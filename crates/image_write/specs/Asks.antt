@@ -1,5 +1,5 @@
 -- What the sum of the length asks, and the length of the segments' records as the code counts it.
-use Rattle.std.specs.Prelude.{◌≡◌, List, ℕ, zero, suc, ◌+◌, ◌*◌, ◌≤◌, ◌<◌, length, get_or}
+use Rattle.std.specs.Prelude.{◌≡◌, List, ℕ, zero, suc, ◌+◌, ◌-◌, ◌*◌, ◌≤◌, ◌<◌, length, get_or}
 use Rattle.terms.specs.Limits.{b_most, n_most, s_most}
 
 -- 18 bytes for a segment and 7 for each key it holds: of `count` segments from i on
@@ -16,8 +16,6 @@ pub record Sizable (b n s : ℕ) (t : List ℕ) : Type 0 where
   pub held : (j : ℕ) → j < s → get_or t (5 * j + 4) 0 < b
 
 -- the loop has counted p bytes, up to segment i
-pub record Sizing (s : ℕ) (t : List ℕ) (from p i left : ℕ) : Type 0 where
-  pub is : p + parts_size t i left ≡ from + parts_size t 0 s
-  pub counts : i + left ≡ s
+pub record Sizing (s : ℕ) (t : List ℕ) (from p i : ℕ) : Type 0 where
+  pub is : p + parts_size t i (s - i) ≡ from + parts_size t 0 s
   pub bounded : p ≤ from + 466 * i
-  pub next : 0 < left → get_or t (5 * i + 4) 0 < b_most

@@ -1,7 +1,7 @@
 // Insert: a key goes into the buffer of its segment, or the segment is merged and cut again. What it refuses it leaves as it was.
 #![tactic(auto)]
 
-ghost use Rattle.std.specs.Prelude.{◌≡◌};
+ghost use Rattle.std.specs.Prelude.{◌≡◌, Ok};
 ghost use Rattle.table.specs.Store.{store_of};
 ghost use Rattle.insert_decide.specs.Decided.{decided_of};
 ghost use Rattle.insert.specs.Insert.{insert_of};
@@ -9,7 +9,8 @@ ghost use Rattle.insert.specs.Cells.{keys_by, table_by, buffers_by};
 
 use answers::Inserted;
 use insert_decide::Decided;
-use terms::Sizes;
+use table::Store;
+use terms::{Refusal, Sizes};
 
 // What was decided is written, and told.
 fn carry_out(
@@ -20,11 +21,11 @@ fn carry_out(
     k: u64,
     decided: Decided,
 ) -> Inserted
-    requires { decided ≡ decided_of (store_of z keys.old table.old buffers.old) k }
-    ensures answered { result ≡ insert_of (store_of z keys.old table.old buffers.old) k }
-    ensures keys { keys.new ≡ keys_by result (store_of z keys.old table.old buffers.old) k }
-    ensures table { table.new ≡ table_by result (store_of z keys.old table.old buffers.old) k }
-    ensures buffers { buffers.new ≡ buffers_by result (store_of z keys.old table.old buffers.old) k }
+    requires { Ok decided ≡ decided_of (store_of z keys.old table.old buffers.old) k }
+    ensures answered { Ok result ≡ insert_of (store_of z keys.old table.old buffers.old) k }
+    ensures keys { keys.new ≡ keys_by (Ok result) (store_of z keys.old table.old buffers.old) k }
+    ensures table { table.new ≡ table_by (Ok result) (store_of z keys.old table.old buffers.old) k }
+    ensures buffers { buffers.new ≡ buffers_by (Ok result) (store_of z keys.old table.old buffers.old) k }
 {
     match decided {
         Decided::Put(i, x, slot) => {
@@ -41,7 +42,6 @@ fn carry_out(
             insert_write::join(z, keys, table, buffers, i, x, t, k);
             merged
         }
-        Decided::Refuse(r) => Inserted::Refused(r),
     }
 }
 
@@ -52,12 +52,18 @@ pub fn insert(
     table: &mut [u64],
     buffers: &mut [u64],
     k: u64,
-) -> Inserted
+) -> Result<Inserted, Refusal>
     ensures answered { result ≡ insert_of (store_of z keys.old table.old buffers.old) k }
     ensures keys { keys.new ≡ keys_by result (store_of z keys.old table.old buffers.old) k }
     ensures table { table.new ≡ table_by result (store_of z keys.old table.old buffers.old) k }
     ensures buffers { buffers.new ≡ buffers_by result (store_of z keys.old table.old buffers.old) k }
 {
-    let decided = insert_decide::decide(z, keys, table, buffers, k);
-    carry_out(z, keys, table, buffers, k, decided)
+    let store = Store {
+        sizes: z,
+        keys,
+        table,
+        buffers,
+    };
+    let decided = insert_decide::decide(store, k)?;
+    Ok(carry_out(z, keys, table, buffers, k, decided))
 }

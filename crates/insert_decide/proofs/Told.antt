@@ -1,6 +1,7 @@
 -- What an answer says: the slot is the rising place, or the merged list rises and its segments are few.
 -- Assumes nothing.
-use mathlib.Core.Path.{◌≡◌, refl, sym, ◌∙◌}
+use Rattle.std.specs.Prelude.{Option, Some, None, Result, Ok}
+use mathlib.Core.Path.{◌≡◌, refl, sym}
 use mathlib.Core.Bool.{true}
 use mathlib.Core.List.{List}
 use Prim.Native.Nat.{ℕ, ◌+◌, ◌-◌, ◌*◌, ◌≤◌}
@@ -16,15 +17,12 @@ use Rattle.terms.specs.Limits.{cut_most}
 use Rattle.terms.specs.Keys.{rising_keys}
 use Rattle.terms.specs.declared.Key.{Key}
 use Rattle.terms.specs.declared.Entry.{Entry}
+use Rattle.terms.specs.declared.Refusal.{Refusal}
 use Rattle.terms.proofs.Keys.{rising_true}
 use Rattle.line.specs.Line.{reach_of}
-use Rattle.scan.specs.declared.Found.{Found}
-use Rattle.scan.specs.declared.Found.TheVariants.{At, Nothing}
 use Rattle.scan.specs.Scan.{lowest_of}
 use Rattle.cone.specs.Rule.{cut}
 use Rattle.cone.proofs.Cover.{few}
-use Rattle.insert_pieces.specs.declared.Cutting.{Cutting}
-use Rattle.insert_pieces.specs.declared.Cutting.TheVariants.{Pieces as Cut, Unruly}
 use Rattle.insert_pieces.specs.Judged.{cutting_of, Judgeable}
 use Rattle.insert_pieces.proofs.Laws.{cut_rises}
 use Rattle.insert_decide.specs.declared.Weighed.{Weighed}
@@ -32,7 +30,7 @@ use Rattle.insert_decide.specs.declared.Weighed.TheVariants.{Pieces}
 use Rattle.insert_decide.specs.Weighed.{cut_for, unless_at, rest_of, weighed_of, Weighable, Parted, Told}
 use Rattle.insert_decide.proofs.Weighing.{pieces_asks}
 
-module _ (e b : ℕ) (x : Entry) (run used : List ℕ) (k : Key) (asked : Weighable e b x run used k) where
+module _ (i e b : ℕ) (x : Entry) (run used : List ℕ) (k : Key) (asked : Weighable e b x run used k) where
   abbrev ks : List ℕ
   ks = merge run (insert_sorted k.0 used)
 
@@ -55,27 +53,27 @@ module _ (e b : ℕ) (x : Entry) (run used : List ℕ) (k : Key) (asked : Weigha
       one : (a : ℕ) → 1 ≤ a + 2
       one a = omega arith
 
-  abbrev Tells : Weighed → Type 0
+  abbrev Tells : Result Weighed Refusal → Type 0
   Tells a = Told e b x run used k a
 
-  cut_told : b ≤ x.held + 1 → (c : Cutting) → cutting_of e ks ≡ c → Tells (cut_for c)
-  cut_told full (Cut t) q =
+  cut_told : b ≤ x.held + 1 → (c : Option ℕ) → cutting_of e ks ≡ c → Tells (cut_for i c)
+  cut_told full (Some t) q =
       let h = cut_rises e ks q in record { full = full; rising = rising_true ks h.0; pieces = h.1; few = omega (arith, h.1, few_cut h.0) }
-  cut_told full Unruly q = tt
+  cut_told full None q = tt
 
-  rest_told : (f g : Found) → Tells (unless_at f (unless_at g (rest_of e b x.held (place_of k.0 used) run used k.0)))
+  rest_told : (f g : Option ℕ) → Tells (unless_at f (unless_at g (rest_of i e b x.held (place_of k.0 used) run used k.0)))
   unfolding rest_of
-  rest_told (At p) g = tt
-  rest_told Nothing (At j) = tt
-  rest_told Nothing Nothing =
+  rest_told (Some p) g = tt
+  rest_told None (Some j) = tt
+  rest_told None None =
       pick_cases Tells (ltb (x.held + 1) b) _ _ (λ t. record { free = ltb-true _ _ t; place = refl }) (λ t. cut_told (ltb-false _ _ t) (cutting_of e ks) refl)
 
-  pub weighed_told : Told e b x run used k (weighed_of e b x run used k)
+  pub weighed_told : Told e b x run used k (weighed_of i e b x run used k)
   unfolding weighed_of
   weighed_told =
       pick_cases Tells (rising_keys used) _ _
       (λ t. rest_told (lowest_of run (reach_of e x k).from ((reach_of e x k).to - (reach_of e x k).from) k.0) (lowest_of used 0 (length used) k.0))
       (λ t. tt)
 
-  pub pieces_told : {a : Weighed} {t : ℕ} → a ≡ weighed_of e b x run used k → a ≡ Pieces t → Parted e b x run used k t
-  pieces_told is at = let h : Told e b x run used k (weighed_of e b x run used k) = weighed_told in rw (sym is ∙ at) at h
+  pub pieces_told : {t : ℕ} → Ok (Pieces t) ≡ weighed_of i e b x run used k → Parted e b x run used k t
+  pieces_told is = let h : Told e b x run used k (weighed_of i e b x run used k) = weighed_told in rw (sym is) at h

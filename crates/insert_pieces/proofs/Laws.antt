@@ -1,5 +1,6 @@
 -- The cases of the tests, and of the walk that counts.
 -- Assumes nothing.
+use Rattle.std.specs.Prelude.{Option, Some, None, min}
 use mathlib.Core.Path.{◌≡◌, refl, sym, ap, ◌∙◌}
 use mathlib.Core.Bool.{Bool, true, false}
 use mathlib.Core.List.{List, [], ◌∷◌}
@@ -20,26 +21,16 @@ use Rattle.lists.proofs.Merging.{length_merge, length_insert}
 use Rattle.terms.specs.Limits.{key_limit, cut_most}
 use Rattle.terms.specs.Keys.{is_key, IsKey, rising_keys, rising_from}
 use Rattle.order.specs.declared.Cursor.{Cursor}
-use Rattle.order.specs.declared.Next.{Next}
-use Rattle.order.specs.declared.Next.TheVariants.{Key, Done}
 use Rattle.order.specs.Order.{key_start, past_run, rest_of, next_of, bound_of}
 use Rattle.order.proofs.Rest.{next_key, next_end, key_all, run_comes}
 use Rattle.cone.specs.declared.Cone.{Cone}
-use Rattle.cone.specs.declared.Step.{Step}
-use Rattle.cone.specs.declared.Step.TheVariants.{Joined, Apart}
 use Rattle.cone.specs.Rule.{cut}
 use Rattle.cone.specs.Step.{Ready, start_of, grown, lets, step_of}
 use Rattle.cone.proofs.Laws.{step_joined}
 use Rattle.cone.proofs.Walk.{Next as NextKey, walk_start, walk_ready, walk_joined, walk_apart, walk_counts}
-use Rattle.insert_pieces.specs.declared.Cutting.{Cutting}
-use Rattle.insert_pieces.specs.declared.Cutting.TheVariants.{Pieces, Unruly}
 use Rattle.insert_pieces.specs.declared.Walked.{Walked}
-use Rattle.insert_pieces.specs.declared.Taken.{Taken}
-use Rattle.insert_pieces.specs.declared.Taken.TheVariants.{To, Fallen}
-use Rattle.insert_pieces.specs.declared.Turn.{Turn}
-use Rattle.insert_pieces.specs.declared.Turn.TheVariants.{On, Over, Fell}
 use Rattle.insert_pieces.specs.Judged.{after_of, cutting_of, Judgeable, Begun}
-use Rattle.insert_pieces.specs.Walked.{Counting, Takable, Took, Takes, Turned, Turns, Joinable, Joining, Joins, Along, Gone, reached, Going, Capped}
+use Rattle.insert_pieces.specs.Walked.{Counting, Takable, Took, Takes, Joinable, Joining, Joins, Along, Gone, reached, Going}
 
 -- ---- after
 
@@ -58,23 +49,23 @@ first_key : (x : ℕ) {r : Bool} → r ≡ is_key x → r ≡ both (leb 0 x) (is
 first_key x is = let l : 0 ≤ x = omega arith in simp (le-leb _ _ l) is
 
 -- ---- the first key of a merged order
-module _ (run used : List ℕ) (k : ℕ) {m : Cursor} (begin : m ≡ key_start) {n : Next} (is : n ≡ next_of m run used k) where
+module _ (run used : List ℕ) (k : ℕ) {m : Cursor} (begin : m ≡ key_start) {n : Option (ℕ × Cursor)} (is : n ≡ next_of m run used k) where
   whole : rest_of m run used k ≡ merge run (insert_sorted k used)
   whole = rw begin (key_all run used k)
 
-  all_is : {x : ℕ} {past : Cursor} → n ≡ Key x past → merge run (insert_sorted k used) ≡ x ∷ rest_of past run used k
+  all_is : {x : ℕ} {past : Cursor} → n ≡ Some (x, past) → merge run (insert_sorted k used) ≡ x ∷ rest_of past run used k
   all_is {x} {past} q = sym whole ∙ next_key m run used k x past (sym is ∙ q)
 
   -- the key itself is in the merged order
-  pub pieces_none : (e : ℕ) → n ≡ Done → Unruly ≡ cutting_of e (merge run (insert_sorted k used))
+  pub pieces_none : (e : ℕ) → n ≡ None → None ≡ cutting_of e (merge run (insert_sorted k used))
   pieces_none e q =
       absurd (omega (arith, ap length (sym whole ∙ next_end m run used k (sym is ∙ q)), length_merge run (insert_sorted k used), length_insert k used))
 
-  module _ {x : ℕ} {past : Cursor} (key : n ≡ Key x past) {r : Bool} (tested : r ≡ is_key x) where
+  module _ {x : ℕ} {past : Cursor} (key : n ≡ Some (x, past)) {r : Bool} (tested : r ≡ is_key x) where
     large : r ≡ false → rising_keys (merge run (insert_sorted k used)) ≡ false
     large q = ap rising_keys (all_is key) ∙ up_off 0 key_limit x (rest_of past run used k) (first_key x tested) q
 
-    pub pieces_large : (e : ℕ) → r ≡ false → Unruly ≡ cutting_of e (merge run (insert_sorted k used))
+    pub pieces_large : (e : ℕ) → r ≡ false → None ≡ cutting_of e (merge run (insert_sorted k used))
     unfolding cutting_of
     pieces_large e q = simp (large q)
 
@@ -107,13 +98,13 @@ module _ (e : ℕ) (run used : List ℕ) (k : ℕ) where
         so_far = ap (rising_keys) begun.first ∙ up_on 0 key_limit x (rest_of m run used k) (first_key x refl) small;
       })
 
-  pub count_end : (w : Walked) → Counting e run used k w → {n : Next} → n ≡ next_of w.at run used k → n ≡ Done → Pieces (w.closed + 1) ≡ cutting_of e (merge run (insert_sorted k used))
+  pub count_end : (w : Walked) → Counting e run used k w → {n : Option (ℕ × Cursor)} → n ≡ next_of w.at run used k → n ≡ None → Some (w.closed + 1) ≡ cutting_of e (merge run (insert_sorted k used))
   unfolding cutting_of up_of
   count_end w counting is q =
       let none : rest_of w.at run used k ≡ [] = next_end w.at run used k (sym is ∙ q) in
       let up : rising_keys keys ≡ true = counting.so_far ∙ ap (rising_from (suc w.last)) none in
       let over : length keys ≤ counting.come = omega (arith, length-drop counting.come keys, ap length (counting.rest ∙ none)) in
-      simp up (ap Pieces (walk_counts counting.walk over))
+      simp up (ap Some (walk_counts counting.walk over))
 
   pub count_small : (w : Walked) → Counting e run used k w → Fits w64 (w.closed + 1)
   count_small w c = record { fits = omega (arith, c.walk.closed, c.walk.segment.counted, c.walk.segment.inside, few_keys c.asked, c.asked.few) }
@@ -133,7 +124,7 @@ module _ (e : ℕ) (run used : List ℕ) (k : ℕ) where
     taken_small = count_small w here
 
     module _ {r : Bool} (tested : r ≡ after_of w.last x) where
-      pub taken_fallen : r ≡ false → Unruly ≡ cutting_of e (merge run (insert_sorted k used))
+      pub taken_fallen : r ≡ false → None ≡ cutting_of e (merge run (insert_sorted k used))
       unfolding cutting_of after_of
       taken_fallen q =
           let up : rising_keys keys ≡ false =
@@ -162,8 +153,8 @@ module _ (e : ℕ) (run used : List ℕ) (k : ℕ) where
         unfolding after_of
         up_next = here.so_far ∙ ap (rising_from (suc w.last)) rest_is ∙ up_on (suc w.last) key_limit x (rest_of past run used k) tested yes
 
-        module _ {s : Step} (stepped : s ≡ step_of e w.cone x) where
-          pub taken_joined : {d : Cone} → s ≡ Joined d → Took e run used k past (record { at = past; last = x; closed = w.closed; cone = d })
+        module _ {s : Option Cone} (stepped : s ≡ step_of e w.cone x) where
+          pub taken_joined : {d : Cone} → s ≡ Some d → Took e run used k past (record { at = past; last = x; closed = w.closed; cone = d })
           taken_joined {d} q =
               let t : (lets w.cone x ≡ true) × (d ≡ grown e w.cone x) = step_joined e w.cone x stepped q in
               record {
@@ -180,7 +171,7 @@ module _ (e : ℕ) (run used : List ℕ) (k : ℕ) where
                 at_past = refl;
               }
 
-          pub taken_apart : {d : Cone} → s ≡ Apart → d ≡ start_of e x → Took e run used k past (record { at = past; last = x; closed = w.closed + 1; cone = d })
+          pub taken_apart : {d : Cone} → s ≡ None → d ≡ start_of e x → Took e run used k past (record { at = past; last = x; closed = w.closed + 1; cone = d })
           taken_apart {d} q start =
               rw start
               (record {
@@ -205,9 +196,9 @@ module _ (e : ℕ) (c : Cone) (last y : ℕ) (run : List ℕ) (i : ℕ) (more : 
   pub joined_asks : Joinable e c last y run i → Ready e c (record { 0 = get_or run i 0 })
   joined_asks joinable = joinable.ready more up above
 
-  pub joined_tried : (s : Step) → s ≡ step_of e c (get_or run i 0) → Joins e c last y run i s
-  joined_tried (Joined d) is = record { inside = more; up = up; after = above; step = sym is }
-  joined_tried Apart is = tt
+  pub joined_tried : (s : Option Cone) → s ≡ step_of e c (get_or run i 0) → Joins e c last y run i s
+  joined_tried (Some d) is = record { inside = more; up = up; after = above; step = sym is }
+  joined_tried None is = tt
 
 pub ruleset joined_cases = (joined_asks, joined_tried)
 
@@ -236,7 +227,7 @@ module _ (e : ℕ) (run used : List ℕ) (k y : ℕ) (w : Walked) where
     pub going_asks : Joinable e c last y run i
     going_asks = record { ready = λ more up above. taken_ready e run used k v x (past_run v.at) (comes more up) (after_last up above) refl }
 
-    module _ {s : Step} (joins : Joins e c last y run i s) {d : Cone} (q : s ≡ Joined d) where
+    module _ {s : Option Cone} (joins : Joins e c last y run i s) {d : Cone} (q : s ≡ Some d) where
       joining : Joining e c last y run i d
       joining = rw q at joins
 
@@ -272,73 +263,59 @@ module _ (e : ℕ) (run used : List ℕ) (k y : ℕ) (w : Walked) where
 
 pub ruleset along_cases = (going_start, going_end, going_asks, going_place, going_inside, going_next, going_less, going_on)
 
--- ---- the next key, whichever it is
-
-module _ (e : ℕ) (run used : List ℕ) (k : ℕ) (w : Walked) (counting : Counting e run used k w) {n : Next} (is : n ≡ next_of w.at run used k) where
-  pub turn_over : n ≡ Done → Pieces (w.closed + 1) ≡ cutting_of e (merge run (insert_sorted k used))
-  turn_over p = count_end e run used k w counting is p
-
-  module _ {z : ℕ} {past : Cursor} (p : n ≡ Key z past) where
-    pub turn_asks : Takable e run used k w z past
-    turn_asks = record { counting = counting; next = sym is ∙ p }
-
-    module _ {u : Taken} (takes : Takes e run used k past u) where
-      pub turn_fell : u ≡ Fallen → Unruly ≡ cutting_of e (merge run (insert_sorted k used))
-      turn_fell f = rw f at takes
-
-      pub turn_on : {v : Walked} → u ≡ To v → Turned e run used k w v
-      turn_on {v} f =
-          let took : Took e run used k past v = rw f at takes in
-          record {
-            counting = took.counting;
-            less = omega (arith, ap (λ (m : Cursor). length (rest_of m run used k)) took.at_past, ap length (next_key w.at run used k z past (sym is ∙ p)));
-          }
-
-pub ruleset turn_cases = (count_small, turn_over, turn_asks, turn_fell, turn_on)
-
 -- ---- a stretch of the run, and the key that ends it
 
-module _ (e : ℕ) (run used : List ℕ) (k : ℕ) (w : Walked) where
-  pub on_along : {z y : ℕ} → Counting e run used k w → z ≡ bound_of w.at used k → Capped z y → Along e run used k w y
-  on_along counting is capped = record { counting = counting; bound = omega (arith, is, capped.most); small = capped.small }
+module _ (e : ℕ) (run used : List ℕ) (k : ℕ) (w : Walked) (counting : Counting e run used k w) where
+  pub on_along : {z y : ℕ} → z ≡ bound_of w.at used k → y ≡ min z (key_limit - 1) → Along e run used k w y
+  on_along is least = record { counting = counting; bound = omega (arith, is, least); small = omega (arith, least) }
 
-  module _ {v : Walked} (gone : Gone e run used k w v) where
-    pub on_asks : Counting e run used k v
-    on_asks = gone.counting
+  module _ {v : Walked} (gone : Gone e run used k w v) {n : Option (ℕ × Cursor)} (is : n ≡ next_of v.at run used k) where
+    pub on_small : Fits w64 (v.closed + 1)
+    on_small = count_small e run used k v gone.counting
 
-    module _ {u : Turn} (turns : Turns e run used k v u) where
-      pub on_fell : u ≡ Fell → Unruly ≡ cutting_of e (merge run (insert_sorted k used))
-      on_fell f = rw f at turns
+    pub on_over : n ≡ None → Some (v.closed + 1) ≡ cutting_of e (merge run (insert_sorted k used))
+    on_over p = count_end e run used k v gone.counting is p
 
-      pub on_over : {c : ℕ} → u ≡ Over c → Pieces c ≡ cutting_of e (merge run (insert_sorted k used))
-      on_over f = rw f at turns
+    module _ {z : ℕ} {past : Cursor} (p : n ≡ Some (z, past)) where
+      pub on_asks : Takable e run used k v z past
+      on_asks = record { counting = gone.counting; next = sym is ∙ p }
 
-      module _ {then : Walked} (f : u ≡ On then) where
-        turned : Turned e run used k v then
-        turned = rw f at turns
+      module _ {u : Option Walked} (takes : Takes e run used k past u) where
+        pub on_fell : u ≡ None → None ≡ cutting_of e (merge run (insert_sorted k used))
+        on_fell f = rw f at takes
 
-        pub on_counting : Counting e run used k then
-        on_counting = turned.counting
+        module _ {then : Walked} (f : u ≡ Some then) where
+          took : Took e run used k past then
+          took = rw f at takes
 
-        pub on_less : length (rest_of then.at run used k) < length (rest_of w.at run used k)
-        on_less = omega (arith, gone.most, turned.less)
+          pub on_counting : Counting e run used k then
+          on_counting = took.counting
 
-pub ruleset count_cases = (count_start, on_along, on_asks, on_fell, on_over, on_counting, on_less)
+          pub on_less : length (rest_of then.at run used k) < length (rest_of w.at run used k)
+          on_less =
+              omega (
+                arith,
+                gone.most,
+                ap (λ (m : Cursor). length (rest_of m run used k)) took.at_past,
+                ap length (next_key v.at run used k z past (sym is ∙ p)),
+              )
+
+pub ruleset count_cases = (count_start, on_along, on_small, on_over, on_asks, on_fell, on_counting, on_less)
 
 -- ---- what the answer says
 
-pub cut_rises : (e : ℕ) (ks : List ℕ) {t : ℕ} → cutting_of e ks ≡ Pieces t → (rising_keys ks ≡ true) × (t ≡ length (cut e ks))
+pub cut_rises : (e : ℕ) (ks : List ℕ) {t : ℕ} → cutting_of e ks ≡ Some t → (rising_keys ks ≡ true) × (t ≡ length (cut e ks))
 unfolding cutting_of
 cut_rises e ks {t} =
     either (rising_keys ks)
     (λ u. simp u (λ q. (refl, sym (ap count q))))
     (λ u. simp u (λ q. absurd (let z : ◌≡◌ {A = ℕ} 0 1 = cc in omega arith)))
   where
-    count : Cutting → ℕ
-    count (Pieces t) = t
-    count Unruly = 0
+    count : Option ℕ → ℕ
+    count (Some t) = t
+    count None = 0
 
-pub unruly_falls : (e : ℕ) (ks : List ℕ) → cutting_of e ks ≡ Unruly → rising_keys ks ≡ false
+pub unruly_falls : (e : ℕ) (ks : List ℕ) → cutting_of e ks ≡ None → rising_keys ks ≡ false
 unfolding cutting_of
 unruly_falls e ks =
     either (rising_keys ks)

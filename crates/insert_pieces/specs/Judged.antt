@@ -1,4 +1,5 @@
 -- 01, "the run, the used slots and k become one rising list", "that list alone is cut with e": into how many segments, if it does rise.
+use Rattle.std.specs.Prelude.{Option, Some, None}
 use Rattle.std.specs.Prelude.{◌≡◌, Bool, List, ◌∷◌, ℕ, suc, ◌+◌, ◌≤◌, leb, length}
 use Rattle.lists.specs.Tests.{pick, both}
 use Rattle.lists.specs.Merge.{merge, insert_sorted}
@@ -7,15 +8,13 @@ use Rattle.terms.specs.Keys.{is_key, IsKey, rising_keys}
 use Rattle.order.specs.declared.Cursor.{Cursor}
 use Rattle.order.specs.Order.{rest_of}
 use Rattle.cone.specs.Rule.{cut}
-use Rattle.insert_pieces.specs.declared.Cutting.{Cutting}
-use Rattle.insert_pieces.specs.declared.Cutting.TheVariants.{Pieces, Unruly}
 
 -- a key, above the one before it
 unfoldable pub after_of : ℕ → ℕ → Bool
 after_of before x = both (leb (suc before) x) (is_key x)
 
-unfoldable pub cutting_of : ℕ → List ℕ → Cutting
-cutting_of e ks = pick (rising_keys ks) (Pieces (length (cut e ks))) Unruly
+unfoldable pub cutting_of : ℕ → List ℕ → Option ℕ
+cutting_of e ks = pick (rising_keys ks) (Some (length (cut e ks))) None
 
 -- the keys are few
 pub record Judgeable (e : ℕ) (run used : List ℕ) : Type 0 where

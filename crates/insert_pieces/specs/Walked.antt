@@ -1,22 +1,15 @@
 -- The walk that counts the segments of a merged order, key by key: how far it has come, and what one key more or a stretch of joining keys makes of it.
+use Rattle.std.specs.Prelude.{Option, Some, None}
 use Rattle.std.specs.Prelude.{◌≡◌, List, ℕ, suc, ◌≤◌, ◌<◌, length, drop, get_or}
 use Rattle.lists.specs.Merge.{merge, insert_sorted}
 use Rattle.terms.specs.Limits.{key_of}
 use Rattle.terms.specs.Keys.{IsKey, rising_keys, rising_from}
 use Rattle.order.specs.declared.Cursor.{Cursor}
-use Rattle.order.specs.declared.Next.TheVariants.{Key}
 use Rattle.order.specs.Order.{rest_of, next_of, bound_of}
 use Rattle.cone.specs.declared.Cone.{Cone}
-use Rattle.cone.specs.declared.Step.{Step}
-use Rattle.cone.specs.declared.Step.TheVariants.{Joined, Apart}
 use Rattle.cone.specs.Step.{Ready, step_of}
 use Rattle.cone.specs.Walk.{Walk}
-use Rattle.insert_pieces.specs.declared.Cutting.TheVariants.{Pieces, Unruly}
 use Rattle.insert_pieces.specs.declared.Walked.{Walked}
-use Rattle.insert_pieces.specs.declared.Taken.{Taken}
-use Rattle.insert_pieces.specs.declared.Taken.TheVariants.{To, Fallen}
-use Rattle.insert_pieces.specs.declared.Turn.{Turn}
-use Rattle.insert_pieces.specs.declared.Turn.TheVariants.{On, Over, Fell}
 use Rattle.insert_pieces.specs.Judged.{cutting_of, Judgeable}
 
 -- the walk has come to the cursor, which has the rest
@@ -32,7 +25,7 @@ pub record Counting (e : ℕ) (run used : List ℕ) (k : ℕ) (w : Walked) : Typ
 -- x comes next
 pub record Takable (e : ℕ) (run used : List ℕ) (k : ℕ) (w : Walked) (x : ℕ) (past : Cursor) : Type 0 where
   pub counting : Counting e run used k w
-  pub next : next_of w.at run used k ≡ Key x past
+  pub next : next_of w.at run used k ≡ Some (x, past)
 
 -- it is counted
 pub record Took (e : ℕ) (run used : List ℕ) (k : ℕ) (past : Cursor) (v : Walked) : Type 0 where
@@ -40,19 +33,9 @@ pub record Took (e : ℕ) (run used : List ℕ) (k : ℕ) (past : Cursor) (v : W
   pub at_past : v.at ≡ past
 
 -- or the merged order does not rise
-abbrev pub Takes : ℕ → List ℕ → List ℕ → ℕ → Cursor → Taken → Type 0
-Takes e run used k past (To v) = Took e run used k past v
-Takes e run used k past Fallen = Unruly ≡ cutting_of e (merge run (insert_sorted k used))
-
--- the next key, whichever it is, or none
-pub record Turned (e : ℕ) (run used : List ℕ) (k : ℕ) (w v : Walked) : Type 0 where
-  pub counting : Counting e run used k v
-  pub less : length (rest_of v.at run used k) < length (rest_of w.at run used k)
-
-abbrev pub Turns : ℕ → List ℕ → List ℕ → ℕ → Walked → Turn → Type 0
-Turns e run used k w (On v) = Turned e run used k w v
-Turns e run used k w (Over t) = Pieces t ≡ cutting_of e (merge run (insert_sorted k used))
-Turns e run used k w Fell = Unruly ≡ cutting_of e (merge run (insert_sorted k used))
+abbrev pub Takes : ℕ → List ℕ → List ℕ → ℕ → Cursor → Option Walked → Type 0
+Takes e run used k past (Some v) = Took e run used k past v
+Takes e run used k past None = None ≡ cutting_of e (merge run (insert_sorted k used))
 
 -- the run's key at i, up to y and above the key before, may be tried with the cone
 pub record Joinable (e : ℕ) (c : Cone) (last y : ℕ) (run : List ℕ) (i : ℕ) : Type 0 where
@@ -63,12 +46,12 @@ pub record Joining (e : ℕ) (c : Cone) (last y : ℕ) (run : List ℕ) (i : ℕ
   pub inside : i < length run
   pub up : get_or run i 0 ≤ y
   pub after : last < get_or run i 0
-  pub step : step_of e c (get_or run i 0) ≡ Joined d
+  pub step : step_of e c (get_or run i 0) ≡ Some d
 
 -- or not: why not is not said
-abbrev pub Joins : ℕ → Cone → ℕ → ℕ → List ℕ → ℕ → Step → Type 0
-Joins e c last y run i (Joined d) = Joining e c last y run i d
-Joins e c last y run i Apart = Unit
+abbrev pub Joins : ℕ → Cone → ℕ → ℕ → List ℕ → ℕ → Option Cone → Type 0
+Joins e c last y run i (Some d) = Joining e c last y run i d
+Joins e c last y run i None = Unit
 
 -- the run's keys up to y come next
 pub record Along (e : ℕ) (run used : List ℕ) (k : ℕ) (w : Walked) (y : ℕ) : Type 0 where
@@ -89,8 +72,3 @@ pub record Going (e : ℕ) (run used : List ℕ) (k y : ℕ) (w : Walked) (i las
   pub gone : Gone e run used k w (reached w i last c)
   pub bound : y ≤ bound_of w.at used k
   pub small : IsKey y
-
--- r is at most y, and a key
-pub record Capped (y r : ℕ) : Type 0 where
-  pub most : r ≤ y
-  pub small : IsKey r

@@ -1,5 +1,6 @@
 // What an insert writes: a key into a slot, or the merge of a segment, cut again. All that may be refused is decided before, and the
 // segment's entry is the one that was read then.
+// The slices stay parameters of their own: each step takes those that it reads or writes, and a struct of all would be taken apart at each.
 #![tactic(auto)]
 
 ghost use Rattle.std.specs.Prelude.{◌≡◌, ◌+◌, ◌*◌, set};
@@ -12,6 +13,7 @@ ghost use Rattle.insert_write.specs.Write.{Holding, Joinable, SlotsLater, rows_u
 use terms::{Entry, Sizes};
 
 // k goes to its place among the used slots of segment i, which holds one more.
+#[tactic(auto, using(crate::proofs::Writing::hold_cases))]
 pub fn hold(
     z: Sizes,
     table: &mut [u64],
@@ -34,6 +36,7 @@ pub fn hold(
 }
 
 // Run and later keys go up by b together, and the run is merged down with the used slots and k.
+#[tactic(auto, using(crate::proofs::Writing::keys_cases))]
 fn join_keys(z: Sizes, x: Entry, keys: &mut [u64], used: &[u64], k: u64)
     requires { Joinable z.b z.n x keys.old used.now }
     ensures { keys.new ≡ joined_keys z.b z.n x used.now k keys.old }
@@ -79,6 +82,7 @@ fn make_room(z: Sizes, table: &mut [u64], buffers: &mut [u64], i: usize, t: usiz
 }
 
 // The merged part of the key slice is cut, and its t entries stand in the table from entry i on.
+#[tactic(auto, using(crate::proofs::Writing::recut_cases))]
 fn recut(z: Sizes, x: Entry, keys: &[u64], table: &mut [u64], i: usize, t: usize)
     requires { Recuttable (in_use_of z) z.b x keys.now i t table.old }
     ensures { table.new ≡ recut_table (in_use_of z) z.b x keys.now i table.old }

@@ -1,5 +1,6 @@
 -- The tests of a segment are its rules.
 -- Assumes nothing.
+use Rattle.std.specs.Prelude.{None}
 use mathlib.Core.Path.{◌≡◌, refl, ap, ◌∙◌}
 use mathlib.Core.Bool.{true, not}
 use mathlib.Core.List.{List}
@@ -17,7 +18,6 @@ use Rattle.table.specs.Entries.{entry_of, entry_in, run_in, used_in}
 use Rattle.table.specs.Damaged.{Sound}
 use Rattle.table.proofs.Damages.{damaged_false, false_damaged}
 use Rattle.line.specs.Meaning.{Near}
-use Rattle.order.specs.declared.Bound.TheVariants.{Free}
 use Rattle.judge.specs.Rules.{Rules}
 use Rattle.judge.specs.Check.{ceiling_of, entry_rules, rules_of}
 use Rattle.judge_laws.proofs.Kept.{Under, Kept, kept_true, true_kept}
@@ -49,7 +49,7 @@ module _ (σ : Store) (i : ℕ) (limits : Limits σ) where
       let t : _ = both_true _ _ v.0 in
       let u : _ = both_true _ _ t.1 in
       let sound : Sound σ.b σ.n (entry_in σ i) = damaged_false _ _ _ (not-true _ t.0) in
-      let w : Kept (in_use σ) (entry_in σ i) i (ceiling_of σ.s σ.table i) Free (entry_in σ i).base.0 (run_in σ i) (used_in σ i) = kept_true _ _ _ _ _ _ _ _ v.1 in
+      let w : Kept (in_use σ) (entry_in σ i) i (ceiling_of σ.s σ.table i) None (entry_in σ i).base.0 (run_in σ i) (used_in σ i) = kept_true _ _ _ _ _ _ _ _ v.1 in
       record {
         sound = sound;
         nought = λ z. eqb-true _ _ (imp_true _ _ u.0 (eq-eqb _ _ z));
@@ -72,7 +72,7 @@ module _ (σ : Store) (i : ℕ) (limits : Limits σ) where
       true_both _ _
       (true_both _ _ (ap not (false_damaged _ _ _ r.sound))
       (true_both _ _ (true_imp _ _ (λ t. eq-eqb _ _ (r.nought (eqb-true _ _ t)))) (eq-eqb _ _ r.first)))
-      (true_kept (in_use σ) (entry_in σ i) i (ceiling_of σ.s σ.table i) Free (entry_in σ i).base.0 (run_in σ i) (used_in σ i)
+      (true_kept (in_use σ) (entry_in σ i) i (ceiling_of σ.s σ.table i) None (entry_in σ i).base.0 (run_in σ i) (used_in σ i)
       (record {
         rising = r.rising;
         run_under = λ k j. next_under σ.s σ.table i k (λ l. rw (first_is σ (i + 1)) at (r.run_apart l k j));

@@ -1,6 +1,7 @@
 -- Demand 3d: a table within limits that keeps the other rules and whose lines, worked exactly, miss no read in a run by more than e is accepted,
 -- however it was cut.
 -- Assumes nothing.
+use Rattle.std.specs.Prelude.{Ok}
 use mathlib.Core.Path.{◌≡◌, ap, ◌∙◌}
 use Prim.Native.Nat.{ℕ, zero, suc, ◌+◌, ◌-◌, ◌≤◌, ◌<◌}
 use native.Mathlib.Nat.{add-zero}
@@ -12,7 +13,6 @@ use Rattle.table.specs.Store.{Store, in_use}
 use Rattle.table.specs.Limits.{Limits}
 use Rattle.table.specs.Entries.{entry_in, run_in, used_in}
 use Rattle.line.proofs.Exact.{exact_near}
-use Rattle.answers.specs.declared.Checked.TheVariants.{Good}
 use Rattle.judge.specs.Rules.{Rules}
 use Rattle.judge.specs.Check.{check_of}
 use Rattle.judge_laws.specs.Exactly.{OtherRules, Exactly}
@@ -45,5 +45,5 @@ module _ (σ : Store) (i : ℕ) (limits : Limits σ) (w : OtherRules σ i) where
             exact_near (in_use σ) (entry_in σ i) (key_of (get_or σ.keys p 0)) p w.sound.run_some f a b (exact p a b);
       }
 
-pub exact_good : (σ : Store) → Limits σ → ((i : ℕ) → i < σ.s → OtherRules σ i) → ((i : ℕ) → i < σ.s → Exactly σ i) → check_of σ ≡ Good
+pub exact_good : (σ : Store) → Limits σ → ((i : ℕ) → i < σ.s → OtherRules σ i) → ((i : ℕ) → i < σ.s → Exactly σ i) → check_of σ ≡ Ok tt
 exact_good σ limits others exact = accepted_good σ (record { limits = limits; rules = λ i h. exact_rules σ i limits (others i h) (exact i h) })

@@ -1,5 +1,6 @@
 -- The walk over a segment's merged order tests what the rules say of its keys.
 -- Assumes nothing.
+use Rattle.std.specs.Prelude.{Option, Some, None}
 use mathlib.Core.Path.{◌≡◌, refl, sym, ◌∙◌}
 use mathlib.Core.Bool.{true}
 use mathlib.Core.List.{List, [], ◌∷◌}
@@ -21,8 +22,6 @@ use Rattle.terms.specs.declared.Entry.{Entry}
 use Rattle.line.specs.Line.{window_of}
 use Rattle.line.specs.Meaning.{Near, Within}
 use Rattle.line.proofs.Meaning.{near_within, within_near}
-use Rattle.order.specs.declared.Bound.{Bound}
-use Rattle.order.specs.declared.Bound.TheVariants.{Free, By}
 use Rattle.order.specs.Bound.{floor_of, under_of}
 use Rattle.judge_key.specs.Key.{between_of, run_key_of, used_key_of}
 use Rattle.judge.specs.Check.{kept_of}
@@ -30,26 +29,26 @@ use Rattle.judge.proofs.Laws.{kept_none, kept_run, kept_used}
 
 -- ---- the bounds
 
-abbrev pub Under : Bound → ℕ → Type 0
-Under Free k = Unit
-Under (By l) k = k < l
+abbrev pub Under : Option ℕ → ℕ → Type 0
+Under None k = Unit
+Under (Some l) k = k < l
 
-under_true : (b : Bound) (k : ℕ) → under_of b k ≡ true → Under b k
-under_true Free k h = tt
-under_true (By l) k h = ltb-true k l h
+under_true : (b : Option ℕ) (k : ℕ) → under_of b k ≡ true → Under b k
+under_true None k h = tt
+under_true (Some l) k h = ltb-true k l h
 
-true_under : (b : Bound) (k : ℕ) → Under b k → under_of b k ≡ true
-true_under Free k h = refl
-true_under (By l) k h = lt-ltb k l h
+true_under : (b : Option ℕ) (k : ℕ) → Under b k → under_of b k ≡ true
+true_under None k h = refl
+true_under (Some l) k h = lt-ltb k l h
 
 -- ---- one key
 
-record Between (next before : Bound) (k : ℕ) : Type 0 where
+record Between (next before : Option ℕ) (k : ℕ) : Type 0 where
   pub small : IsKey k
   pub above : floor_of before ≤ k
   pub under : Under next k
 
-module _ (next before : Bound) (k : ℕ) where
+module _ (next before : Option ℕ) (k : ℕ) where
   between_true : between_of next before k ≡ true → Between next before k
   unfolding between_of
   between_true h =
@@ -88,17 +87,17 @@ module _ (next before : Bound) (k : ℕ) where
 
 -- ---- a run and used slots
 
-pub record Kept (e : ℕ) (x : Entry) (i : ℕ) (next before : Bound) (p : ℕ) (ks ys : List ℕ) : Type 0 where
+pub record Kept (e : ℕ) (x : Entry) (i : ℕ) (next before : Option ℕ) (p : ℕ) (ks ys : List ℕ) : Type 0 where
   pub rising : RisingFrom (floor_of before) (merge ks ys)
   pub run_under : (k : ℕ) → In k ks → Under next k
   pub used_under : (k : ℕ) → In k ys → Under next k
   pub not_before : 0 < i → (k : ℕ) → In k ys → x.first.0 ≤ k
   pub windows : (q : ℕ) → q < length ks → Near e x (key_of (get_or ks q 0)) (p + q)
 
-module _ (e : ℕ) (x : Entry) (i : ℕ) (next : Bound) where
+module _ (e : ℕ) (x : Entry) (i : ℕ) (next : Option ℕ) where
   -- a key of the run more at the front
-  module _ (before : Bound) (p k : ℕ) (ks ys : List ℕ) (front : merge (k ∷ ks) ys ≡ k ∷ merge ks ys) where
-    run_cons : Between next before k × Near e x (key_of k) p → Kept e x i next (By k) (p + 1) ks ys → Kept e x i next before p (k ∷ ks) ys
+  module _ (before : Option ℕ) (p k : ℕ) (ks ys : List ℕ) (front : merge (k ∷ ks) ys ≡ k ∷ merge ks ys) where
+    run_cons : Between next before k × Near e x (key_of k) p → Kept e x i next (Some k) (p + 1) ks ys → Kept e x i next before p (k ∷ ks) ys
     run_cons b w =
         record {
           rising = rw front (b.0.above, (b.0.small, w.rising));
@@ -112,7 +111,7 @@ module _ (e : ℕ) (x : Entry) (i : ℕ) (next : Bound) where
         windows zero h = rw (add-zero p) b.1
         windows (suc q) h = let s : p + suc q ≡ p + 1 + q = omega arith in rw s (w.windows q (omega arith))
 
-    cons_run : Kept e x i next before p (k ∷ ks) ys → (Between next before k × Near e x (key_of k) p) × Kept e x i next (By k) (p + 1) ks ys
+    cons_run : Kept e x i next before p (k ∷ ks) ys → (Between next before k × Near e x (key_of k) p) × Kept e x i next (Some k) (p + 1) ks ys
     cons_run w =
         let u : RisingFrom (floor_of before) (k ∷ merge ks ys) = rw front at w.rising in
         let n : Near e x (key_of k) (p + 0) = w.windows 0 (omega arith) in (
@@ -127,8 +126,8 @@ module _ (e : ℕ) (x : Entry) (i : ℕ) (next : Bound) where
         )
 
   -- a used key more at the front
-  module _ (before : Bound) (p y : ℕ) (ks ys : List ℕ) (front : merge ks (y ∷ ys) ≡ y ∷ merge ks ys) where
-    used_cons : Between next before y × (0 < i → x.first.0 ≤ y) → Kept e x i next (By y) p ks ys → Kept e x i next before p ks (y ∷ ys)
+  module _ (before : Option ℕ) (p y : ℕ) (ks ys : List ℕ) (front : merge ks (y ∷ ys) ≡ y ∷ merge ks ys) where
+    used_cons : Between next before y × (0 < i → x.first.0 ≤ y) → Kept e x i next (Some y) p ks ys → Kept e x i next before p ks (y ∷ ys)
     used_cons b w =
         record {
           rising = rw front (b.0.above, (b.0.small, w.rising));
@@ -138,7 +137,7 @@ module _ (e : ℕ) (x : Entry) (i : ℕ) (next : Bound) where
           windows = w.windows;
         }
 
-    cons_used : Kept e x i next before p ks (y ∷ ys) → (Between next before y × (0 < i → x.first.0 ≤ y)) × Kept e x i next (By y) p ks ys
+    cons_used : Kept e x i next before p ks (y ∷ ys) → (Between next before y × (0 < i → x.first.0 ≤ y)) × Kept e x i next (Some y) p ks ys
     cons_used w =
         let u : RisingFrom (floor_of before) (y ∷ merge ks ys) = rw front at w.rising in (
           (record { above = u.0; small = u.1.0; under = w.used_under y (inl refl) }, λ h. w.not_before h y (inl refl)),
@@ -152,42 +151,42 @@ module _ (e : ℕ) (x : Entry) (i : ℕ) (next : Bound) where
         )
 
   -- where the test passes each key, and the reverse
-  module _ (before : Bound) (p k : ℕ) (ks ys : List ℕ) (least : (y : ℕ) (zs : List ℕ) → ys ≡ y ∷ zs → k ≤ y) where
-    run_step : (kept_of e x i next (By k) (p + 1) ks ys ≡ true → Kept e x i next (By k) (p + 1) ks ys) → kept_of e x i next before p (k ∷ ks) ys ≡ true → Kept e x i next before p (k ∷ ks) ys
+  module _ (before : Option ℕ) (p k : ℕ) (ks ys : List ℕ) (least : (y : ℕ) (zs : List ℕ) → ys ≡ y ∷ zs → k ≤ y) where
+    run_step : (kept_of e x i next (Some k) (p + 1) ks ys ≡ true → Kept e x i next (Some k) (p + 1) ks ys) → kept_of e x i next before p (k ∷ ks) ys ≡ true → Kept e x i next before p (k ∷ ks) ys
     run_step rest h =
         let t : _ = both_true _ _ (sym (kept_run e x i next before p k ks ys least) ∙ h) in
         run_cons before p k ks ys (merge_first k ks ys least) (run_true next before k e x p t.0) (rest t.1)
 
-    step_run : (Kept e x i next (By k) (p + 1) ks ys → kept_of e x i next (By k) (p + 1) ks ys ≡ true) → Kept e x i next before p (k ∷ ks) ys → kept_of e x i next before p (k ∷ ks) ys ≡ true
+    step_run : (Kept e x i next (Some k) (p + 1) ks ys → kept_of e x i next (Some k) (p + 1) ks ys ≡ true) → Kept e x i next before p (k ∷ ks) ys → kept_of e x i next before p (k ∷ ks) ys ≡ true
     step_run rest w =
         let t : _ = cons_run before p k ks ys (merge_first k ks ys least) w in
         kept_run e x i next before p k ks ys least ∙ true_both _ _ (true_run next before k e x p t.0.0 t.0.1) (rest t.1)
 
-  module _ (before : Bound) (p y : ℕ) (ks ys : List ℕ) (least : (k : ℕ) (zs : List ℕ) → ks ≡ k ∷ zs → y < k) where
-    used_step : (kept_of e x i next (By y) p ks ys ≡ true → Kept e x i next (By y) p ks ys) → kept_of e x i next before p ks (y ∷ ys) ≡ true → Kept e x i next before p ks (y ∷ ys)
+  module _ (before : Option ℕ) (p y : ℕ) (ks ys : List ℕ) (least : (k : ℕ) (zs : List ℕ) → ks ≡ k ∷ zs → y < k) where
+    used_step : (kept_of e x i next (Some y) p ks ys ≡ true → Kept e x i next (Some y) p ks ys) → kept_of e x i next before p ks (y ∷ ys) ≡ true → Kept e x i next before p ks (y ∷ ys)
     used_step rest h =
         let t : _ = both_true _ _ (sym (kept_used e x i next before p y ks ys least) ∙ h) in
         used_cons before p y ks ys (merge_second y ks ys least) (used_true next before y x i t.0) (rest t.1)
 
-    step_used : (Kept e x i next (By y) p ks ys → kept_of e x i next (By y) p ks ys ≡ true) → Kept e x i next before p ks (y ∷ ys) → kept_of e x i next before p ks (y ∷ ys) ≡ true
+    step_used : (Kept e x i next (Some y) p ks ys → kept_of e x i next (Some y) p ks ys ≡ true) → Kept e x i next before p ks (y ∷ ys) → kept_of e x i next before p ks (y ∷ ys) ≡ true
     step_used rest w =
         let t : _ = cons_used before p y ks ys (merge_second y ks ys least) w in
         kept_used e x i next before p y ks ys least ∙ true_both _ _ (true_used next before y x i t.0.0 t.0.1) (rest t.1)
 
-  pub kept_true : (before : Bound) (p : ℕ) (ks ys : List ℕ) → kept_of e x i next before p ks ys ≡ true → Kept e x i next before p ks ys
+  pub kept_true : (before : Option ℕ) (p : ℕ) (ks ys : List ℕ) → kept_of e x i next before p ks ys ≡ true → Kept e x i next before p ks ys
   kept_true before p [] [] h = record { rising = rw (merge_nil []) tt; run_under = λ k j. absurd j; used_under = λ k j. absurd j; not_before = λ z k j. absurd j; windows = λ q l. absurd (not-suc-le-zero l) }
-  kept_true before p [] (y ∷ ys) h = used_step before p y [] ys (λ k zs q. nil_cons k zs q) (kept_true (By y) p [] ys) h
-  kept_true before p (k ∷ ks) [] h = run_step before p k ks [] (λ y zs q. nil_cons y zs q) (kept_true (By k) (p + 1) ks []) h
+  kept_true before p [] (y ∷ ys) h = used_step before p y [] ys (λ k zs q. nil_cons k zs q) (kept_true (Some y) p [] ys) h
+  kept_true before p (k ∷ ks) [] h = run_step before p k ks [] (λ y zs q. nil_cons y zs q) (kept_true (Some k) (p + 1) ks []) h
   kept_true before p (k ∷ ks) (y ∷ ys) h =
       either (leb k y)
-      (λ t. run_step before p k ks (y ∷ ys) (λ z zs q. omega (arith, leb-true k y t, same_head y z ys zs q)) (kept_true (By k) (p + 1) ks (y ∷ ys)) h)
-      (λ t. used_step before p y (k ∷ ks) ys (λ z zs q. omega (arith, leb-false k y t, same_head k z ks zs q)) (kept_true (By y) p (k ∷ ks) ys) h)
+      (λ t. run_step before p k ks (y ∷ ys) (λ z zs q. omega (arith, leb-true k y t, same_head y z ys zs q)) (kept_true (Some k) (p + 1) ks (y ∷ ys)) h)
+      (λ t. used_step before p y (k ∷ ks) ys (λ z zs q. omega (arith, leb-false k y t, same_head k z ks zs q)) (kept_true (Some y) p (k ∷ ks) ys) h)
 
-  pub true_kept : (before : Bound) (p : ℕ) (ks ys : List ℕ) → Kept e x i next before p ks ys → kept_of e x i next before p ks ys ≡ true
+  pub true_kept : (before : Option ℕ) (p : ℕ) (ks ys : List ℕ) → Kept e x i next before p ks ys → kept_of e x i next before p ks ys ≡ true
   true_kept before p [] [] w = sym (kept_none e x i next before p)
-  true_kept before p [] (y ∷ ys) w = step_used before p y [] ys (λ k zs q. nil_cons k zs q) (true_kept (By y) p [] ys) w
-  true_kept before p (k ∷ ks) [] w = step_run before p k ks [] (λ y zs q. nil_cons y zs q) (true_kept (By k) (p + 1) ks []) w
+  true_kept before p [] (y ∷ ys) w = step_used before p y [] ys (λ k zs q. nil_cons k zs q) (true_kept (Some y) p [] ys) w
+  true_kept before p (k ∷ ks) [] w = step_run before p k ks [] (λ y zs q. nil_cons y zs q) (true_kept (Some k) (p + 1) ks []) w
   true_kept before p (k ∷ ks) (y ∷ ys) w =
       either (leb k y)
-      (λ t. step_run before p k ks (y ∷ ys) (λ z zs q. omega (arith, leb-true k y t, same_head y z ys zs q)) (true_kept (By k) (p + 1) ks (y ∷ ys)) w)
-      (λ t. step_used before p y (k ∷ ks) ys (λ z zs q. omega (arith, leb-false k y t, same_head k z ks zs q)) (true_kept (By y) p (k ∷ ks) ys) w)
+      (λ t. step_run before p k ks (y ∷ ys) (λ z zs q. omega (arith, leb-true k y t, same_head y z ys zs q)) (true_kept (Some k) (p + 1) ks (y ∷ ys)) w)
+      (λ t. step_used before p y (k ∷ ks) ys (λ z zs q. omega (arith, leb-false k y t, same_head k z ks zs q)) (true_kept (Some y) p (k ∷ ks) ys) w)

@@ -1,5 +1,6 @@
 -- The check on the store that 01 prints, and on the same store with one number changed.
 -- Assumes nothing.
+use Rattle.std.specs.Prelude.{Ok, Err}
 use mathlib.Core.Path.{◌≡◌, refl}
 use mathlib.Core.List.{[], ◌∷◌}
 use Prim.Native.Nat.{ℕ}
@@ -12,7 +13,6 @@ use Rattle.table.specs.Entries.{entry_of}
 use Rattle.table.specs.Damaged.{damaged_of}
 use Rattle.line.specs.Line.{guess_of, window_of}
 use Rattle.scan.specs.Scan.{first_passing, fails_of}
-use Rattle.answers.specs.declared.Checked.TheVariants.{Good, Refused}
 use Rattle.judge_key.specs.Key.{between_of, run_key_of, used_key_of}
 use Rattle.judge.specs.Check.{kept_of, entry_rules, rules_of, check_of}
 
@@ -23,25 +23,25 @@ printed first slot held =
     (10 ∷ (0 ∷ (2 ∷ (20 ∷ (0 ∷ (first ∷ (3 ∷ (2 ∷ (20 ∷ (held ∷ []))))))))))
     (0 ∷ (0 ∷ (slot ∷ (0 ∷ []))))
 
-accepted : check_of (printed 100 0 0) ≡ Good
+accepted : check_of (printed 100 0 0) ≡ Ok tt
 unfolding check_of rules_of entry_rules kept_of run_key_of used_key_of between_of fails_of first_passing window_of guess_of limited_of damaged_of all any entry_of
 accepted = refl
 
 -- keys of segment 0 that reach the next first key are segment 0's fault
-reached : check_of (printed 30 0 0) ≡ Refused (StoreWrong 0)
+reached : check_of (printed 30 0 0) ≡ Err (StoreWrong 0)
 unfolding check_of rules_of entry_rules kept_of run_key_of used_key_of between_of fails_of first_passing window_of guess_of limited_of damaged_of all any entry_of
 reached = refl
 
 -- a first key that is not the key at base is its own segment's
-not_first : check_of (printed 31 0 0) ≡ Refused (StoreWrong 1)
+not_first : check_of (printed 31 0 0) ≡ Err (StoreWrong 1)
 unfolding check_of rules_of entry_rules kept_of run_key_of used_key_of between_of fails_of first_passing window_of guess_of limited_of damaged_of all any entry_of
 not_first = refl
 
 -- a used key among the run's, and one that is below the first key
-buffered : check_of (printed 100 105 1) ≡ Good
+buffered : check_of (printed 100 105 1) ≡ Ok tt
 unfolding check_of rules_of entry_rules kept_of run_key_of used_key_of between_of fails_of first_passing window_of guess_of limited_of damaged_of all any entry_of
 buffered = refl
 
-before_first : check_of (printed 100 99 1) ≡ Refused (StoreWrong 1)
+before_first : check_of (printed 100 99 1) ≡ Err (StoreWrong 1)
 unfolding check_of rules_of entry_rules kept_of run_key_of used_key_of between_of fails_of first_passing window_of guess_of limited_of damaged_of all any entry_of
 before_first = refl

@@ -1,5 +1,6 @@
 -- The cases of a guess and a window, and that the numbers of a guess are small.
 -- Assumes nothing.
+use Rattle.std.specs.Prelude.{Option, Some, None}
 use mathlib.Core.Path.{◌≡◌, refl, sym, ap, subst, ◌∙◌}
 use Prim.Native.Nat.{ℕ, ◌+◌, ◌-◌, ◌*◌, ◌/◌, ◌^◌, ◌≤◌, ◌<◌, min, max}
 use native.Mathlib.Nat.{zero-sub, mul-le-mul, div-le_self, lt_of_le_of_lt}
@@ -14,8 +15,6 @@ use Rattle.terms.specs.declared.Entry.{Entry}
 use Rattle.terms.specs.Limits.{key_limit, rise_most}
 use Rattle.lists.proofs.Tests.{either}
 use Rattle.products.specs.Products.{Divisible}
-use Rattle.line.specs.declared.Guessed.{Guessed}
-use Rattle.line.specs.declared.Guessed.TheVariants.{NoGuess, At}
 use Rattle.line.specs.declared.Span.{Span}
 use Rattle.line.specs.declared.Places.{Places}
 use Rattle.line.specs.Line.{Lined, Reaching, guess_at, guess_of, near_of, around_of, window_of, reach_of}
@@ -27,28 +26,31 @@ product a b m n h g = mul-le-mul h g
 rise_small : (x : Entry) (k : Key) → Lined x k → (k.0 - x.first.0) * x.rise < 2 ^ 60
 rise_small x k s = lt_of_le_of_lt (product (k.0 - x.first.0) x.rise key_limit rise_most (omega arith) (omega arith)) (lit< tt)
 
-pub guess_asks : (x : Entry) (k : Key) → Lined x k → Divisible (k.0 - x.first.0) x.rise x.run
-guess_asks x k s = record { product = omega (arith, rise_small x k s); run_some = s.run_some }
+pub guess_asks : (x : Entry) (k : Key) {d : ℕ} → Lined x k → d ≡ k.0 - x.first.0 → Divisible d x.rise x.run
+guess_asks x k s e = rw e record { product = omega (arith, rise_small x k s); run_some = s.run_some }
 
-pub guess_fits : (x : Entry) (k : Key) {q : ℕ} → Lined x k → q ≡ (k.0 - x.first.0) * x.rise / x.run → Fits w64 (x.base.0 + q)
-guess_fits x k s p = record { fits = omega (arith, rise_small x k s, div-le_self ((k.0 - x.first.0) * x.rise) x.run) }
+pub guess_fits : (x : Entry) (k : Key) {d q : ℕ} → Lined x k → d ≡ k.0 - x.first.0 → q ≡ d * x.rise / x.run → Fits w64 (x.base.0 + q)
+guess_fits x k {q = q} s e p =
+    let far : q ≡ (k.0 - x.first.0) * x.rise / x.run = cc in
+    record { fits = omega (arith, rise_small x k s, div-le_self ((k.0 - x.first.0) * x.rise) x.run) }
 
-pub guess_none : (x : Entry) (k : Key) → k.0 < x.first.0 → NoGuess ≡ guess_of x k
+-- what the code's `?` passes on, and what it answers
+pub guess_none : (x : Entry) (k : Key) {g : Option Pos} → g ≡ None → ¬ (x.first.0 ≤ k.0) → g ≡ guess_of x k
 unfolding guess_of
-guess_none x k h = simp (lt-ltb _ _ h)
+guess_none x k p h = simp (p, lt-ltb k.0 x.first.0 (omega arith))
 
-pub guess_some : (x : Entry) (k : Key) {q : ℕ} → x.first.0 ≤ k.0 → q ≡ (k.0 - x.first.0) * x.rise / x.run → At (record { 0 = x.base.0 + q }) ≡ guess_of x k
+pub guess_some : (x : Entry) (k : Key) {d q : ℕ} → x.first.0 ≤ k.0 → d ≡ k.0 - x.first.0 → q ≡ d * x.rise / x.run → Some (record { 0 = x.base.0 + q }) ≡ guess_of x k
 unfolding guess_of
-guess_some x k h p = simp (le-ltb _ _ h, p)
+guess_some x k h e p = simp (le-ltb _ _ h, p, e)
 
-pub ruleset guess_cases = (guess_asks, guess_fits, guess_none, guess_some)
+pub ruleset guess_cases = (guess_asks, guess_fits, guess_some)
 
 -- the cases of `window`
-pub window_none : (e : ℕ) (x : Entry) (k : Key) {g : Guessed} → g ≡ guess_of x k → g ≡ NoGuess → record { from = record { 0 = 0 }; to = record { 0 = 0 } } ≡ window_of e x k
+pub window_none : (e : ℕ) (x : Entry) (k : Key) {g : Option Pos} → g ≡ guess_of x k → g ≡ None → record { from = record { 0 = 0 }; to = record { 0 = 0 } } ≡ window_of e x k
 unfolding window_of
 window_none e x k p q = ap (around_of e x) (sym q ∙ p)
 
-pub window_near : (e : ℕ) (x : Entry) (k : Key) {g : Guessed} {p : Pos} {w : Span} → g ≡ guess_of x k → g ≡ At p → w ≡ near_of e x p → w ≡ window_of e x k
+pub window_near : (e : ℕ) (x : Entry) (k : Key) {g : Option Pos} {p : Pos} {w : Span} → g ≡ guess_of x k → g ≡ Some p → w ≡ near_of e x p → w ≡ window_of e x k
 unfolding window_of
 window_near e x k is at w = w ∙ ap (around_of e x) (sym at ∙ is)
 
@@ -67,34 +69,34 @@ to_reach : (e base end g : ℕ) → base ≤ g → base ≤ end → min (end - b
 to_reach e base end g h l = omega arith
 
 -- what a guess is
-abbrev placed : Guessed → ℕ
-placed NoGuess = 0
-placed (At p) = p.0
+abbrev placed : Option Pos → ℕ
+placed None = 0
+placed (Some p) = p.0
 
-abbrev IsAt : Guessed → Type 0
-IsAt NoGuess = ⊥
-IsAt (At p) = Unit
+abbrev IsAt : Option Pos → Type 0
+IsAt None = ⊥
+IsAt (Some p) = Unit
 
-no_guess_at : {p : Pos} → NoGuess ≡ At p → ⊥
+no_guess_at : {p : Pos} → None ≡ Some p → ⊥
 no_guess_at e = subst IsAt (sym e) tt
 
 -- the cases of `reach`: a guess is not below the base
 pub reach_asks : (x : Entry) (k : Key) → Reaching x k → Lined x k
 reach_asks x k s = s.lined
 
-module _ (x : Entry) (k : Key) {g : Guessed} (is : g ≡ guess_of x k) where
-  pub guess_from : {p : Pos} → g ≡ At p → x.base.0 ≤ p.0
+module _ (x : Entry) (k : Key) {g : Option Pos} (is : g ≡ guess_of x k) where
+  pub guess_from : {p : Pos} → g ≡ Some p → x.base.0 ≤ p.0
   unfolding guess_of
   guess_from {p} at =
       either (ltb k.0 x.first.0)
-      (λ h. let z : NoGuess ≡ At p = simp h at (sym is ∙ at) in absurd (no_guess_at z))
-      (λ h. let z : At (record { 0 = guess_at x k }) ≡ At p = simp h at (sym is ∙ at) in omega (arith, ap placed z))
+      (λ h. let z : None ≡ Some p = simp h at (sym is ∙ at) in absurd (no_guess_at z))
+      (λ h. let z : Some (record { 0 = guess_at x k }) ≡ Some p = simp h at (sym is ∙ at) in omega (arith, ap placed z))
 
-  pub reach_none : (e : ℕ) → g ≡ NoGuess → record { from = 0; to = 0 } ≡ reach_of e x k
+  pub reach_none : (e : ℕ) → g ≡ None → record { from = 0; to = 0 } ≡ reach_of e x k
   unfolding reach_of window_of
   reach_none e at = rw (sym is ∙ at, zero-sub) refl
 
-  pub reach_some : (e : ℕ) {p : Pos} {f t : ℕ} → Reaching x k → g ≡ At p → f ≡ p.0 - x.base.0 - e → t ≡ min (x.end.0 - x.base.0) (p.0 - x.base.0 + e + 1)
+  pub reach_some : (e : ℕ) {p : Pos} {f t : ℕ} → Reaching x k → g ≡ Some p → f ≡ p.0 - x.base.0 - e → t ≡ min (x.end.0 - x.base.0) (p.0 - x.base.0 + e + 1)
       → record { from = f; to = t } ≡ reach_of e x k
   unfolding reach_of window_of
   reach_some e {p} s at a b = simp (sym is ∙ at, a, b, from_reach e x.base.0 p.0 (guess_from at), to_reach e x.base.0 x.end.0 p.0 (guess_from at) s.some)

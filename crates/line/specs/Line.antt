@@ -1,4 +1,5 @@
 -- 01, "The line": the guess of a segment for a key, and the window about the guess. Exact, on natural numbers.
+use Rattle.std.specs.Prelude.{Option, Some, None}
 use Rattle.std.specs.Prelude.{ℕ, ◌+◌, ◌-◌, ◌*◌, ◌/◌, min, max, ◌≤◌, ◌<◌, ltb}
 use Rattle.lists.specs.Tests.{pick}
 use Rattle.terms.specs.declared.Key.{Key}
@@ -6,8 +7,6 @@ use Rattle.terms.specs.declared.Pos.{Pos}
 use Rattle.terms.specs.declared.Entry.{Entry}
 use Rattle.terms.specs.Limits.{n_most, rise_most}
 use Rattle.terms.specs.Keys.{IsKey}
-use Rattle.line.specs.declared.Guessed.{Guessed}
-use Rattle.line.specs.declared.Guessed.TheVariants.{NoGuess, At}
 use Rattle.line.specs.declared.Span.{Span}
 use Rattle.line.specs.declared.Places.{Places}
 
@@ -23,17 +22,17 @@ abbrev pub guess_at : Entry → Key → ℕ
 guess_at x k = x.base.0 + (k.0 - x.first.0) * x.rise / x.run
 
 -- "when k is not below the first key"; "If k is below the first key there is no guess"
-unfoldable pub guess_of : Entry → Key → Guessed
-guess_of x k = pick (ltb k.0 x.first.0) NoGuess (At (record { 0 = guess_at x k }))
+unfoldable pub guess_of : Entry → Key → Option Pos
+guess_of x k = pick (ltb k.0 x.first.0) None (Some (record { 0 = guess_at x k }))
 
 -- "the positions p with base ≤ p < end that differ from the guess by at most e", as their two ends
 abbrev pub near_of : ℕ → Entry → Pos → Span
 near_of e x g = record { from = record { 0 = max x.base.0 (g.0 - e) }; to = record { 0 = min x.end.0 (g.0 + e + 1) } }
 
 -- "and the window is empty"
-abbrev pub around_of : ℕ → Entry → Guessed → Span
-around_of e x NoGuess = record { from = record { 0 = 0 }; to = record { 0 = 0 } }
-around_of e x (At g) = near_of e x g
+abbrev pub around_of : ℕ → Entry → Option Pos → Span
+around_of e x None = record { from = record { 0 = 0 }; to = record { 0 = 0 } }
+around_of e x (Some g) = near_of e x g
 
 unfoldable pub window_of : ℕ → Entry → Key → Span
 window_of e x k = around_of e x (guess_of x k)

@@ -1,17 +1,10 @@
 // The line of a segment: the guess for a key, and the window about the guess.
 #![tactic(auto)]
 
-ghost use Rattle.std.specs.Prelude.{◌≡◌, ◌+◌, ◌-◌, min, max};
+ghost use Rattle.std.specs.Prelude.{◌≡◌, ◌+◌, ◌-◌, min};
 ghost use Rattle.line.specs.Line.{Lined, Reaching, guess_of, near_of, window_of, reach_of};
 
 use terms::{Entry, Key, Pos};
-
-// A guess, or the news that the key is below the first key and has none.
-#[derive(Clone, Copy)]
-pub enum Guessed {
-    NoGuess,
-    At(Pos),
-}
 
 // The positions from `from` up to, and without, `to`.
 #[derive(Clone, Copy)]
@@ -27,47 +20,28 @@ pub struct Places {
     pub to: usize,
 }
 
-// base + (k - first) * rise / run, rounded down. Below the first key nothing is subtracted.
-pub fn guess(x: Entry, k: Key) -> Guessed
+// base + (k - first) * rise / run, rounded down. Below the first key nothing is subtracted, and there is no guess.
+pub fn guess(x: Entry, k: Key) -> Option<Pos>
     requires { Lined x k }
     ensures { result ≡ guess_of x k }
 {
-    if k.0 < x.first.0 {
-        return Guessed::NoGuess;
-    }
-    let up = products::quotient(k.0 - x.first.0, x.rise, x.run);
-    Guessed::At(Pos(x.base.0 + (up as usize)))
-}
-
-// a - b, and 0 where b is larger.
-fn less(a: usize, b: usize) -> usize
-    ensures { result ≡ a - b }
-{
-    if a < b { 0 } else { a - b }
-}
-
-fn larger(a: usize, b: usize) -> usize
-    ensures { result ≡ max a b }
-{
-    if a < b { b } else { a }
+    let far = k.0.checked_sub(x.first.0)?;
+    let up = products::quotient(far, x.rise, x.run);
+    Some(Pos(x.base.0 + (up as usize)))
 }
 
 // One past a + b, but at most `end`: no sum that wraps.
 fn past(a: usize, b: usize, end: usize) -> usize
     ensures { result ≡ min end (a + b + 1) }
 {
-    if a < end {
-        if b < end - a { a + b + 1 } else { end }
-    } else {
-        end
-    }
+    a.saturating_add(b).saturating_add(1).min(end)
 }
 
 // The positions of the segment that differ from `g` by at most `e`.
 pub fn near(x: Entry, g: Pos, e: usize) -> Span
     ensures { result ≡ near_of e x g }
 {
-    let from = larger(x.base.0, less(g.0, e));
+    let from = x.base.0.max(g.0.saturating_sub(e));
     let to = past(g.0, e, x.end.0);
     Span {
         from: Pos(from),
@@ -80,13 +54,12 @@ pub fn window(x: Entry, k: Key, e: usize) -> Span
     requires { Lined x k }
     ensures { result ≡ window_of e x k }
 {
-    let g = guess(x, k);
-    match g {
-        Guessed::NoGuess => Span {
+    match guess(x, k) {
+        None => Span {
             from: Pos(0),
             to: Pos(0),
         },
-        Guessed::At(p) => near(x, p, e),
+        Some(p) => near(x, p, e),
     }
 }
 
@@ -95,12 +68,11 @@ pub fn reach(x: Entry, k: Key, e: usize) -> Places
     requires { Reaching x k }
     ensures { result ≡ reach_of e x k }
 {
-    let g = guess(x, k);
-    match g {
-        Guessed::NoGuess => Places { from: 0, to: 0 },
-        Guessed::At(p) => {
+    match guess(x, k) {
+        None => Places { from: 0, to: 0 },
+        Some(p) => {
             let up = p.0 - x.base.0;
-            let from = less(up, e);
+            let from = up.saturating_sub(e);
             let to = past(up, e, x.end.0 - x.base.0);
             Places { from, to }
         }

@@ -1,7 +1,8 @@
 -- Demand 3: "Altering stored reads outside the bound round the guess and outside that segment's buffer, table untouched, never changes a
 -- lookup's answer." For any store, accepted or not, and any key.
 -- Assumes nothing.
-use mathlib.Core.Path.{◌≡◌, refl, sym, ◌∙◌}
+use Rattle.std.specs.Prelude.{Ok}
+use mathlib.Core.Path.{◌≡◌, refl, sym, ◌∙◌, ap}
 use mathlib.Core.List.{List}
 use Prim.Native.Nat.{ℕ, ◌-◌, ◌*◌, ◌<◌}
 use native.Mathlib.Omega.{arith}
@@ -64,7 +65,7 @@ module _ (σ : Store) (keys buffers : List ℕ) (k : ℕ) (w : Alike σ keys buf
 
   picked_same : picked_for (altered σ keys buffers) k (picked_in σ k) ≡ picked_for σ k (picked_in σ k)
   unfolding picked_of
-  picked_same = either (damaged_of σ.b σ.n x) (λ t. simp t) (λ t. simp t searched_same)
+  picked_same = either (damaged_of σ.b σ.n x) (λ t. simp t) (λ t. simp t (ap Ok searched_same))
 
   pub same_answer : lookup_of (altered σ keys buffers) k ≡ lookup_of σ k
   unfolding lookup_of

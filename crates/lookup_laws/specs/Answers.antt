@@ -1,4 +1,6 @@
 -- What each answer of lookup means, with no search in it: 01's words as a relation between a store, a key and an answer.
+use Rattle.std.specs.Prelude.{Result, Ok, Err}
+use Rattle.terms.specs.declared.Refusal.{Refusal}
 use Rattle.std.specs.Prelude.{◌≡◌, ℕ, ◌+◌, ◌*◌, ◌<◌, get_or}
 use Rattle.terms.specs.Limits.{key_of}
 use Rattle.terms.specs.Keys.{IsKey, NoKey}
@@ -9,9 +11,9 @@ use Rattle.table.specs.Entries.{entry_in}
 use Rattle.table.specs.Damaged.{Sound}
 use Rattle.choose.specs.Chosen.{Chosen}
 use Rattle.line.specs.Meaning.{Near}
-use Rattle.scan.specs.Meaning.{None, Lowest}
+use Rattle.scan.specs.Meaning.{NoneIn, Lowest}
 use Rattle.answers.specs.declared.Looked.{Looked}
-use Rattle.answers.specs.declared.Looked.TheVariants.{InRun, InBuffer, Absent, Refused}
+use Rattle.answers.specs.declared.Looked.TheVariants.{InRun, InBuffer, Absent}
 
 -- neither refusal 1 nor 2 is due, and segment i is the one chosen for k
 pub record Asked (σ : Store) (k i : ℕ) : Type 0 where
@@ -51,13 +53,13 @@ pub record Missing (σ : Store) (k : ℕ) : Type 0 where
   pub segment : ℕ
   pub taken : Taken σ k segment
   pub not_running : (q : ℕ) → Stands σ k segment q → ⊥
-  pub not_waiting : None (Waits σ k segment) 0 (entry_in σ segment).held
+  pub not_waiting : NoneIn (Waits σ k segment) 0 (entry_in σ segment).held
 
 -- the answers, and the refusals in 01's order: 1, 2, 9
-pub data Answers (σ : Store) (k : ℕ) : Looked → Type 0 where
-  in_run : {p : ℕ} → Running σ k p → Answers σ k (InRun (record { 0 = p }))
-  in_buffer : {i j : ℕ} → Waiting σ k i j → Answers σ k (InBuffer i j)
-  absent : Missing σ k → Answers σ k Absent
-  refused_1 : (Limits σ → ⊥) → Answers σ k (Refused OutOfLimits)
-  refused_2 : Limits σ → NoKey k → Answers σ k (Refused (LargeKey (record { 0 = 0 })))
-  refused_9 : {i : ℕ} → Asked σ k i → (Sound σ.b σ.n (entry_in σ i) → ⊥) → Answers σ k (Refused (StoreWrong i))
+pub data Answers (σ : Store) (k : ℕ) : Result Looked Refusal → Type 0 where
+  in_run : {p : ℕ} → Running σ k p → Answers σ k (Ok (InRun (record { 0 = p })))
+  in_buffer : {i j : ℕ} → Waiting σ k i j → Answers σ k (Ok (InBuffer i j))
+  absent : Missing σ k → Answers σ k (Ok Absent)
+  refused_1 : (Limits σ → ⊥) → Answers σ k (Err OutOfLimits)
+  refused_2 : Limits σ → NoKey k → Answers σ k (Err (LargeKey (record { 0 = 0 })))
+  refused_9 : {i : ℕ} → Asked σ k i → (Sound σ.b σ.n (entry_in σ i) → ⊥) → Answers σ k (Err (StoreWrong i))

@@ -1,5 +1,7 @@
 -- Demand 1b: range's answer means what 01's table says, and only that answer does.
 -- Assumes nothing.
+use Rattle.std.specs.Prelude.{Option, Some, None, Result, Ok, Err}
+use Rattle.terms.specs.declared.Refusal.{Refusal}
 use mathlib.Core.Path.{◌≡◌, refl, sym, ap, ◌∙◌}
 use mathlib.Core.Bool.{false}
 use mathlib.Core.List.{List, ◌++◌}
@@ -20,15 +22,11 @@ use Rattle.choose.specs.Chosen.{chosen_of}
 use Rattle.choose.specs.Stretch.{keys_from}
 use Rattle.table.proofs.Limits.{limited_true, true_limited}
 use Rattle.choose.proofs.Chosen.{chosen_is, one_choice}
-use Rattle.scan.specs.declared.Found.{Found}
-use Rattle.scan.specs.declared.Found.TheVariants.{At, Nothing}
 use Rattle.scan.specs.Scan.{fails_of}
 use Rattle.scan.specs.Meaning.{Scanned}
 use Rattle.scan.proofs.Meaning.{fails_scanned, one_answer}
 use Rattle.theory_stretch.proofs.Stretch.{stretch_forward}
 use Rattle.range_stretch.specs.Stretch.{fine_of, counted_by, judged_of}
-use Rattle.answers.specs.declared.Ranged.{Ranged}
-use Rattle.answers.specs.declared.Ranged.TheVariants.{Listed, Refused}
 use Rattle.range.specs.Range.{listed_by, stretched_of, chosen_range_of, range_of, out_by}
 use Rattle.range.proofs.Laws.{range_limits, range_low, range_high, range_backwards}
 use Rattle.range_laws.specs.Answers.{Asked, Fine, Right, list_of, Held, Long, Wrong, Answers, listed, refused_1, refused_2, refused_4, refused_9, refused_8}
@@ -43,7 +41,7 @@ module _ (σ : Store) (low high room a z : ℕ) (asked : Asked σ low high a z) 
   abbrev Fails : ℕ → Type 0
   Fails i = fine_of σ a i ≡ false
 
-  abbrev lowest : Found
+  abbrev lowest : Option ℕ
   lowest = fails_of (fine_of σ a) a (suc z - a)
 
   abbrev number : ℕ
@@ -61,14 +59,14 @@ module _ (σ : Store) (low high room a z : ℕ) (asked : Asked σ low high a z) 
   scanned_all : Scanned Fails a (suc z) lowest
   scanned_all = let e : a + (suc z - a) ≡ suc z = omega (arith, runs_on) in rw e at (fails_scanned (fine_of σ a) a (suc z - a))
 
-  abbrev answer_of : Found → Ranged
+  abbrev answer_of : Option ℕ → Result ℕ Refusal
   answer_of f = listed_by room (counted_by number f)
 
-  right_of : Scanned Fails a (suc z) Nothing → Right σ low high a z
+  right_of : Scanned Fails a (suc z) None → Right σ low high a z
   right_of w = record { asked = asked; fine = λ i h g. passes i h (w i h (omega arith)) }
 
-  found_answers : (f : Found) → Scanned Fails a (suc z) f → Answers σ low high room (answer_of f)
-  found_answers (At i) w =
+  found_answers : (f : Option ℕ) → Scanned Fails a (suc z) f → Answers σ low high room (answer_of f)
+  found_answers (Some i) w =
       refused_9
       (record {
         first = a;
@@ -79,7 +77,7 @@ module _ (σ : Store) (low high room a z : ℕ) (asked : Asked σ low high a z) 
         wrong = λ f. fine_not i w.from f w.holds;
         before = λ j h g. passes j h (w.first j h g);
       })
-  found_answers Nothing w =
+  found_answers None w =
       either (leb number room)
       (λ t. rw t (listed (record { first = a; last = z; right = right_of w; number = refl; fits = leb-true number room t })))
       (λ t. rw t (refused_8 (record { first = a; last = z; right = right_of w; longer = leb-false number room t })))
@@ -107,7 +105,7 @@ module _ (σ : Store) (low high room a z : ℕ) (asked : Asked σ low high a z) 
       )
       refl
 
-  found_is : (f : Found) → Scanned Fails a (suc z) f → answer_of f ≡ range_of σ low high room
+  found_is : (f : Option ℕ) → Scanned Fails a (suc z) f → answer_of f ≡ range_of σ low high room
   found_is f w = ap answer_of (one_answer Fails a (suc z) f lowest w scanned_all) ∙ sym range_is
 
 -- Range's answer means what it should.
@@ -137,7 +135,7 @@ answers σ low high room =
 
 -- ---- and nothing else does
 
-large : (σ : Store) (low high room : ℕ) → Limits σ → (NoKey low) ⊎ (NoKey high) → Refused (LargeKey (record { 0 = 0 })) ≡ range_of σ low high room
+large : (σ : Store) (low high room : ℕ) → Limits σ → (NoKey low) ⊎ (NoKey high) → Err (LargeKey (record { 0 = 0 })) ≡ range_of σ low high room
 large σ low high room l h =
     either (is_key low)
     (λ u. range_high σ low high room refl (true_limited σ l) refl u refl
@@ -145,25 +143,25 @@ large σ low high room l h =
     (λ u. range_low σ low high room refl (true_limited σ l) refl u)
 
 module _ (σ : Store) (low high room : ℕ) where
-  held_is : {m : ℕ} → Held σ low high room m → Listed m ≡ range_of σ low high room
+  held_is : {m : ℕ} → Held σ low high room m → Ok m ≡ range_of σ low high room
   held_is {m} w =
       let q : Asked σ low high w.first w.last = w.right.asked in
-      let e : Listed m ≡ listed_by room (counted_by (length (list_of σ low high w.first w.last)) Nothing)
-      = rw (le-leb (length (list_of σ low high w.first w.last)) room (omega (arith, w.number, w.fits))) (ap Listed w.number) in
-      e ∙ found_is σ low high room w.first w.last q Nothing
+      let e : Ok m ≡ listed_by room (counted_by (length (list_of σ low high w.first w.last)) None)
+      = rw (le-leb (length (list_of σ low high w.first w.last)) room (omega (arith, w.number, w.fits))) (ap Ok w.number) in
+      e ∙ found_is σ low high room w.first w.last q None
       (λ i h g f. fine_not σ low high room w.first w.last q i h (w.right.fine i h (omega arith)) f)
 
-  long_is : Long σ low high room → Refused OutRoom ≡ range_of σ low high room
+  long_is : Long σ low high room → Err OutRoom ≡ range_of σ low high room
   long_is w =
       let q : Asked σ low high w.first w.last = w.right.asked in
-      let e : Refused OutRoom ≡ listed_by room (counted_by (length (list_of σ low high w.first w.last)) Nothing)
+      let e : Err OutRoom ≡ listed_by room (counted_by (length (list_of σ low high w.first w.last)) None)
       = rw (lt-leb (length (list_of σ low high w.first w.last)) room w.longer) refl in
-      e ∙ found_is σ low high room w.first w.last q Nothing
+      e ∙ found_is σ low high room w.first w.last q None
       (λ i h g f. fine_not σ low high room w.first w.last q i h (w.right.fine i h (omega arith)) f)
 
-  wrong_is : {i : ℕ} → Wrong σ low high i → Refused (StoreWrong i) ≡ range_of σ low high room
+  wrong_is : {i : ℕ} → Wrong σ low high i → Err (StoreWrong i) ≡ range_of σ low high room
   wrong_is {i} w =
-      found_is σ low high room w.first w.last w.asked (At i)
+      found_is σ low high room w.first w.last w.asked (Some i)
       (record {
         from = w.from;
         below = omega (arith, w.to);
@@ -172,7 +170,7 @@ module _ (σ : Store) (low high room : ℕ) where
       })
 
 -- An answer that means what it should is range's.
-pub only : (σ : Store) (low high room : ℕ) (r : Ranged) → Answers σ low high room r → r ≡ range_of σ low high room
+pub only : (σ : Store) (low high room : ℕ) (r : Result ℕ Refusal) → Answers σ low high room r → r ≡ range_of σ low high room
 only σ low high room r (listed w) = held_is σ low high room w
 only σ low high room r (refused_1 w) = either (limited_of σ) (λ t. absurd (w (limited_true σ t))) (λ t. range_limits σ low high room refl t)
 only σ low high room r (refused_2 l h) = large σ low high room l h
@@ -183,7 +181,7 @@ only σ low high room r (refused_8 w) = long_is σ low high room w
 
 -- ---- and so, for an accepted call
 
-listed_says : (σ : Store) (low high room count : ℕ) {r : Ranged} → Answers σ low high room r → r ≡ Listed count → Held σ low high room count
+listed_says : (σ : Store) (low high room count : ℕ) {r : Result ℕ Refusal} → Answers σ low high room r → r ≡ Ok count → Held σ low high room count
 listed_says σ low high room count (listed {m} w) e = let q : m ≡ count = cc in rw q at w
 listed_says σ low high room count (refused_1 w) e = absurd (let z : ◌≡◌ {A = ℕ} 0 1 = cc in omega arith)
 listed_says σ low high room count (refused_2 l h) e = absurd (let z : ◌≡◌ {A = ℕ} 0 1 = cc in omega arith)
@@ -192,22 +190,22 @@ listed_says σ low high room count (refused_9 w) e = absurd (let z : ◌≡◌ {
 listed_says σ low high room count (refused_8 w) e = absurd (let z : ◌≡◌ {A = ℕ} 0 1 = cc in omega arith)
 
 -- m keys are listed exactly when no segment of the stretch is wrong, its keys from low to high have room, and m is their number
-pub listed_held : (σ : Store) (low high room m : ℕ) → range_of σ low high room ≡ Listed m → Held σ low high room m
+pub listed_held : (σ : Store) (low high room m : ℕ) → range_of σ low high room ≡ Ok m → Held σ low high room m
 listed_held σ low high room m e = listed_says σ low high room m (answers σ low high room) e
 
-pub held_listed : (σ : Store) (low high room m : ℕ) → Held σ low high room m → range_of σ low high room ≡ Listed m
+pub held_listed : (σ : Store) (low high room m : ℕ) → Held σ low high room m → range_of σ low high room ≡ Ok m
 held_listed σ low high room m w = sym (held_is σ low high room w)
 
 -- "The rest of the out slice is unchanged": of an accepted call the out slice starts with the keys from low to high of the stretch, and goes on as it was
 pub out_is : (σ : Store) (low high m : ℕ) (out : List ℕ) (w : Held σ low high (length out) m) →
-    out_by (keys_from σ low high) (Listed m) out ≡ list_of σ low high w.first w.last ++ drop m out
+    out_by (keys_from σ low high) (Ok m) out ≡ list_of σ low high w.first w.last ++ drop m out
 out_is σ low high m out w =
     rw (keys_are σ low high (length out) w.first w.last w.right.asked, w.number)
     (over_start out (list_of σ low high w.first w.last) (omega (arith, w.number, w.fits)))
 
 -- ---- and for the refusals that hang on the stretch
 
-wrong_says : (σ : Store) (low high room place : ℕ) {r : Ranged} → Answers σ low high room r → r ≡ Refused (StoreWrong place) → Wrong σ low high place
+wrong_says : (σ : Store) (low high room place : ℕ) {r : Result ℕ Refusal} → Answers σ low high room r → r ≡ Err (StoreWrong place) → Wrong σ low high place
 wrong_says σ low high room place (listed w) e = absurd (let z : ◌≡◌ {A = ℕ} 0 1 = cc in omega arith)
 wrong_says σ low high room place (refused_1 w) e = absurd (let z : ◌≡◌ {A = ℕ} 0 1 = cc in omega arith)
 wrong_says σ low high room place (refused_2 l h) e = absurd (let z : ◌≡◌ {A = ℕ} 0 1 = cc in omega arith)
@@ -216,13 +214,13 @@ wrong_says σ low high room place (refused_9 {i} w) e = let q : i ≡ place = cc
 wrong_says σ low high room place (refused_8 w) e = absurd (let z : ◌≡◌ {A = ℕ} 0 1 = cc in omega arith)
 
 -- 9 is given at i exactly when none of 1, 2 and 4 is due and i is the lowest segment of the stretch that is wrong
-pub nine_wrong : (σ : Store) (low high room i : ℕ) → range_of σ low high room ≡ Refused (StoreWrong i) → Wrong σ low high i
+pub nine_wrong : (σ : Store) (low high room i : ℕ) → range_of σ low high room ≡ Err (StoreWrong i) → Wrong σ low high i
 nine_wrong σ low high room i e = wrong_says σ low high room i (answers σ low high room) e
 
-pub wrong_nine : (σ : Store) (low high room i : ℕ) → Wrong σ low high i → range_of σ low high room ≡ Refused (StoreWrong i)
+pub wrong_nine : (σ : Store) (low high room i : ℕ) → Wrong σ low high i → range_of σ low high room ≡ Err (StoreWrong i)
 wrong_nine σ low high room i w = sym (wrong_is σ low high room w)
 
-long_says : (σ : Store) (low high room : ℕ) {r : Ranged} → Answers σ low high room r → r ≡ Refused OutRoom → Long σ low high room
+long_says : (σ : Store) (low high room : ℕ) {r : Result ℕ Refusal} → Answers σ low high room r → r ≡ Err OutRoom → Long σ low high room
 long_says σ low high room (listed w) e = absurd (let z : ◌≡◌ {A = ℕ} 0 1 = cc in omega arith)
 long_says σ low high room (refused_1 w) e = absurd (let z : ◌≡◌ {A = ℕ} 0 1 = cc in omega arith)
 long_says σ low high room (refused_2 l h) e = absurd (let z : ◌≡◌ {A = ℕ} 0 1 = cc in omega arith)
@@ -231,8 +229,8 @@ long_says σ low high room (refused_9 w) e = absurd (let z : ◌≡◌ {A = ℕ}
 long_says σ low high room (refused_8 w) e = w
 
 -- 8 exactly when no segment of the stretch is wrong, and its keys from low to high are more than the out slice holds
-pub eight_long : (σ : Store) (low high room : ℕ) → range_of σ low high room ≡ Refused OutRoom → Long σ low high room
+pub eight_long : (σ : Store) (low high room : ℕ) → range_of σ low high room ≡ Err OutRoom → Long σ low high room
 eight_long σ low high room e = long_says σ low high room (answers σ low high room) e
 
-pub long_eight : (σ : Store) (low high room : ℕ) → Long σ low high room → range_of σ low high room ≡ Refused OutRoom
+pub long_eight : (σ : Store) (low high room : ℕ) → Long σ low high room → range_of σ low high room ≡ Err OutRoom
 long_eight σ low high room w = sym (long_is σ low high room w)

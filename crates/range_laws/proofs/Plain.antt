@@ -1,6 +1,7 @@
 -- Demand 2: on an accepted store range lists exactly the reads from low to high, and their number; it never refuses by 9, and by 8 exactly when they are
 -- more than the out slice holds.
 -- Assumes nothing.
+use Rattle.std.specs.Prelude.{Ok, Err}
 use mathlib.Core.Path.{◌≡◌, refl, sym, ap, ◌∙◌}
 use mathlib.Core.List.{List, ◌++◌}
 use Prim.Native.Nat.{ℕ, suc, ◌+◌, ◌-◌, ◌≤◌, ◌<◌}
@@ -20,7 +21,6 @@ use Rattle.choose.proofs.Chosen.{chosen_is}
 use Rattle.judge.specs.Rules.{Accepted}
 use Rattle.judge_laws.proofs.Segments.{held_key, reads_rise}
 use Rattle.theory_stretch.proofs.Stretch.{stretch_split, range_is}
-use Rattle.answers.specs.declared.Ranged.TheVariants.{Listed, Refused}
 use Rattle.range.specs.Range.{range_of}
 use Rattle.range_laws.specs.Answers.{Asked, Fine, Right}
 use Rattle.range_laws.proofs.Meaning.{held_listed, long_eight}
@@ -69,13 +69,13 @@ module _ (σ : Store) (ok : Accepted σ) where
     plain_keys = range_is σ ok low high forwards
 
     -- what it answers, where they have room
-    pub plain_listed : (room : ℕ) → length (between low high (reads σ)) ≤ room → range_of σ low high room ≡ Listed (length (between low high (reads σ)))
+    pub plain_listed : (room : ℕ) → length (between low high (reads σ)) ≤ room → range_of σ low high room ≡ Ok (length (between low high (reads σ)))
     plain_listed room h =
         held_listed σ low high room (length (between low high (reads σ)))
         (record { first = chosen_of σ.table σ.s low; last = chosen_of σ.table σ.s high; right = right; number = ap length (sym plain_keys); fits = h })
 
     -- and where they have not
-    pub plain_long : (room : ℕ) → room < length (between low high (reads σ)) → range_of σ low high room ≡ Refused OutRoom
+    pub plain_long : (room : ℕ) → room < length (between low high (reads σ)) → range_of σ low high room ≡ Err OutRoom
     plain_long room h =
         long_eight σ low high room
         (record {

@@ -1,4 +1,6 @@
 -- What each answer of range means, with no walk in it: 01's words as a relation between a store, two ends, the out slice's length and an answer.
+use Rattle.std.specs.Prelude.{Result, Ok, Err}
+use Rattle.terms.specs.declared.Refusal.{Refusal}
 use Rattle.std.specs.Prelude.{◌≡◌, List, ◌⊎◌, ℕ, suc, ◌-◌, ◌≤◌, ◌<◌, length, get_or}
 use Rattle.lists.specs.Rising.{In}
 use Rattle.lists.specs.Between.{between}
@@ -10,8 +12,6 @@ use Rattle.table.specs.Entries.{entry_in}
 use Rattle.table.specs.Damaged.{Sound}
 use Rattle.choose.specs.Chosen.{Chosen}
 use Rattle.table.specs.Reads.{merged_in, stretch_of}
-use Rattle.answers.specs.declared.Ranged.{Ranged}
-use Rattle.answers.specs.declared.Ranged.TheVariants.{Listed, Refused}
 
 -- none of the refusals 1, 2 and 4 is due, and "the stretch runs from the segment chosen for low to that chosen for high": from a to z
 pub record Asked (σ : Store) (low high a z : ℕ) : Type 0 where
@@ -65,10 +65,10 @@ pub record Wrong (σ : Store) (low high i : ℕ) : Type 0 where
   pub before : (j : ℕ) → first ≤ j → j < i → Fine σ first j
 
 -- the answer, and the refusals in 01's order: 1, 2, 4, 9, 8
-pub data Answers (σ : Store) (low high room : ℕ) : Ranged → Type 0 where
-  listed : {m : ℕ} → Held σ low high room m → Answers σ low high room (Listed m)
-  refused_1 : (Limits σ → ⊥) → Answers σ low high room (Refused OutOfLimits)
-  refused_2 : Limits σ → (NoKey low) ⊎ (NoKey high) → Answers σ low high room (Refused (LargeKey (record { 0 = 0 })))
-  refused_4 : Limits σ → IsKey low → IsKey high → high < low → Answers σ low high room (Refused Backwards)
-  refused_9 : {i : ℕ} → Wrong σ low high i → Answers σ low high room (Refused (StoreWrong i))
-  refused_8 : Long σ low high room → Answers σ low high room (Refused OutRoom)
+pub data Answers (σ : Store) (low high room : ℕ) : Result ℕ Refusal → Type 0 where
+  listed : {m : ℕ} → Held σ low high room m → Answers σ low high room (Ok m)
+  refused_1 : (Limits σ → ⊥) → Answers σ low high room (Err OutOfLimits)
+  refused_2 : Limits σ → (NoKey low) ⊎ (NoKey high) → Answers σ low high room (Err (LargeKey (record { 0 = 0 })))
+  refused_4 : Limits σ → IsKey low → IsKey high → high < low → Answers σ low high room (Err Backwards)
+  refused_9 : {i : ℕ} → Wrong σ low high i → Answers σ low high room (Err (StoreWrong i))
+  refused_8 : Long σ low high room → Answers σ low high room (Err OutRoom)

@@ -1,5 +1,7 @@
 -- The cases of each function, over what its callees ensure and what its tests say.
 -- Assumes nothing.
+use Rattle.std.specs.Prelude.{Option, Some, None, Ok, Err}
+use Rattle.terms.specs.declared.Refusal.TheVariants.{StoreWrong}
 use mathlib.Core.Path.{◌≡◌, refl, sym, ap, ◌∙◌}
 use mathlib.Core.Bool.{Bool, true, false, not}
 use mathlib.Core.List.{List, [], ◌∷◌, ◌++◌}
@@ -8,7 +10,6 @@ use native.Mathlib.Nat.{add-zero}
 use native.Mathlib.Omega.{arith}
 use lib.Dec.{leb}
 use lib.ListN.{length, set, length-append}
-use borrow.Author.Tests.{le-leb, lt-leb}
 use Rattle.lists.specs.Tests.{both}
 use Rattle.lists.specs.Merge.{merge}
 use Rattle.lists.specs.Between.{between}
@@ -27,36 +28,20 @@ use Rattle.table.specs.Reads.{merged_in, stretch_of}
 use Rattle.table.proofs.Damages.{sound_of, damaged_false}
 use Rattle.scan.proofs.Laws.{fail_here, fail_on, fail_end}
 use Rattle.order.specs.declared.Cursor.{Cursor}
-use Rattle.order.specs.declared.Next.{Next}
-use Rattle.order.specs.declared.Next.TheVariants.{Key, Done}
 use Rattle.order.specs.Order.{pair_start, rest_of, next_of}
 use Rattle.order.proofs.Rest.{next_key, next_end, pair_all}
-use Rattle.order.specs.declared.Bound.{Bound}
-use Rattle.order.specs.declared.Bound.TheVariants.{Free, By}
 use Rattle.order.specs.Bound.{floor_of, above_of, last_of}
 use Rattle.choose.specs.Stretch.{keys_in}
 use Rattle.segment.proofs.Laws.{run_held, used_held, lent}
-use Rattle.range_stretch.specs.declared.Walked.{Walked}
-use Rattle.range_stretch.specs.declared.Walked.TheVariants.{Rose, Fell}
-use Rattle.range_stretch.specs.declared.Judged.TheVariants.{WrongAt, Counts}
 use Rattle.range_stretch.specs.Stretch.{fine_of, judged_of, follows_of, walked_of, seen_of}
 use Rattle.range_stretch.specs.Asks.{Countable, Few, Walking, Seeable, Stretch, Judging, Placeable, Fillable, Filling}
 use Rattle.range_stretch.proofs.Stretches.{keys_more, keys_none, keys_first, before_next, before_first, merged_few, walked_none, walked_falls, walked_on, Passed, seen_rose, seen_fell}
 
--- ---- within, follows, tally, put_key
+-- ---- follows, tally, put_key
 
-module _ (low high k : ℕ) where
-  pub within_high : low ≤ k → leb k high ≡ both (leb low k) (leb k high)
-  within_high h = rw (le-leb low k h) refl
-
-  pub within_low : k < low → false ≡ both (leb low k) (leb k high)
-  within_low h = rw (lt-leb low k h) refl
-
-pub ruleset within_cases = (within_high, within_low)
-
-module _ (before : Bound) (k : ℕ) {a : Bool} (over : a ≡ above_of before k) where
-  pub follows_not : a ≡ false → false ≡ follows_of before k
-  follows_not h = rw (sym over ∙ h) refl
+module _ (before : Option ℕ) (k : ℕ) {a : Bool} (over : a ≡ above_of before k) where
+  pub follows_not : a ≡ false → a ≡ follows_of before k
+  follows_not h = h ∙ rw (sym over ∙ h) refl
 
   pub follows_last : {r : Bool} → a ≡ true → r ≡ is_key k → r ≡ follows_of before k
   follows_last h is = rw (sym over ∙ h) is
@@ -94,7 +79,7 @@ pub ruleset put_key_cases = (tally_more, tally_same, put_room, put_written, put_
 
 -- ---- walk
 
-module _ (low high : ℕ) (before : Bound) (seen : ℕ) (run used : List ℕ) where
+module _ (low high : ℕ) (before : Option ℕ) (seen : ℕ) (run used : List ℕ) where
   pub walk_start : {m : Cursor} → Few seen run used → m ≡ pair_start → Walking low high before seen run used before seen m
   walk_start w e =
       rw e
@@ -103,12 +88,12 @@ module _ (low high : ℕ) (before : Bound) (seen : ℕ) (run used : List ℕ) wh
         so_far = ap (walked_of low high before seen) (sym (pair_all run used 0));
       })
 
-  module _ {last : Bound} {count : ℕ} {m : Cursor} (so : Walking low high before seen run used last count m) {n : Next} (is : n ≡ next_of m run used 0) where
-    pub walk_end : n ≡ Done → Rose last count ≡ walked_of low high before seen (merge run used)
+  module _ {last : Option ℕ} {count : ℕ} {m : Cursor} (so : Walking low high before seen run used last count m) {n : Option (ℕ × Cursor)} (is : n ≡ next_of m run used 0) where
+    pub walk_end : n ≡ None → Some (last, count) ≡ walked_of low high before seen (merge run used)
     walk_end q =
         sym (so.so_far ∙ ap (walked_of low high last count) (next_end m run used 0 (sym is ∙ q)) ∙ walked_none low high last count)
 
-    module _ {k : ℕ} {past : Cursor} (key : n ≡ Key k past) where
+    module _ {k : ℕ} {past : Cursor} (key : n ≡ Some (k, past)) where
       rest_is : rest_of m run used 0 ≡ k ∷ rest_of past run used 0
       rest_is = next_key m run used 0 k past (sym is ∙ key)
 
@@ -122,18 +107,18 @@ module _ (low high : ℕ) (before : Bound) (seen : ℕ) (run used : List ℕ) wh
       walk_less = omega (arith, rest_length)
 
       module _ {f : Bool} (tested : f ≡ follows_of last k) where
-        pub walk_bad : f ≡ false → Fell ≡ walked_of low high before seen (merge run used)
+        pub walk_bad : f ≡ false → None ≡ walked_of low high before seen (merge run used)
         walk_bad q =
             sym (so.so_far ∙ ap (walked_of low high last count) rest_is ∙ walked_falls low high last count k (rest_of past run used 0) (sym tested ∙ q))
 
-        pub walk_on : {more : ℕ} → f ≡ true → more ≡ count + length (between low high (k ∷ [])) → Walking low high before seen run used (By k) more past
+        pub walk_on : {more : ℕ} → f ≡ true → more ≡ count + length (between low high (k ∷ [])) → Walking low high before seen run used (Some k) more past
         walk_on {more} q e =
             let l : length (between low high (k ∷ [])) ≤ 1 = between_short low high (k ∷ []) in
             record {
               few = omega (arith, so.few, rest_length);
               so_far =
                   so.so_far ∙ ap (walked_of low high last count) rest_is ∙ walked_on low high last count k (rest_of past run used 0) (sym tested ∙ q)
-                  ∙ ap (λ (c : ℕ). walked_of low high (By k) c (rest_of past run used 0)) (sym e);
+                  ∙ ap (λ (c : ℕ). walked_of low high (Some k) c (rest_of past run used 0)) (sym e);
             }
 
 pub ruleset walk_cases = (walk_start, walk_end, walk_counts, walk_less, walk_bad, walk_on)
@@ -151,12 +136,12 @@ module _ (z : Sizes) (keys table buffers : List ℕ) (i seen : ℕ) where
   see_few {x} w sound p q =
       record { few = omega (arith, lent z keys table buffers w.segment.limits i x w.segment.inside sound p q, sound, w.segment.limits, w.few) }
 
-  module _ (low high : ℕ) (before : Bound) {x : Entry} (entry : x ≡ entry_of z.n z.s table i) {g : Bool} (good : g ≡ damaged_of z.b z.n x) where
-    pub see_damaged : g ≡ true → Fell ≡ seen_of σ low high i before seen
+  module _ (low high : ℕ) (before : Option ℕ) {x : Entry} (entry : x ≡ entry_of z.n z.s table i) {g : Bool} (good : g ≡ damaged_of z.b z.n x) where
+    pub see_damaged : g ≡ true → None ≡ seen_of σ low high i before seen
     unfolding seen_of
     see_damaged h = let d : damaged_of z.b z.n (entry_in σ i) ≡ true = cc in rw d refl
 
-    pub see_walked : {run used : List ℕ} {r : Walked} → g ≡ false → run ≡ run_of keys x → used ≡ used_of z.b buffers i x.held →
+    pub see_walked : {run used : List ℕ} {r : Option (Option ℕ × ℕ)} → g ≡ false → run ≡ run_of keys x → used ≡ used_of z.b buffers i x.held →
         r ≡ walked_of low high before seen (merge run used) → r ≡ seen_of σ low high i before seen
     unfolding seen_of
     see_walked h p q is = let d : damaged_of z.b z.n (entry_in σ i) ≡ false = cc in rw d (rw (p, q, entry) at is)
@@ -166,7 +151,7 @@ pub ruleset see_cases = (see_row, sound_of, run_held, used_held, see_few, see_da
 -- ---- judge_stretch
 
 module _ (σ : Store) (low high a to : ℕ) where
-  pub judge_start : Judging σ low high a to a Free 0
+  pub judge_start : Judging σ low high a to a None 0
   judge_start =
       record {
         from = omega arith;
@@ -177,13 +162,13 @@ module _ (σ : Store) (low high a to : ℕ) where
         so_far = refl;
       }
 
-  module _ (i : ℕ) (before : Bound) (seen : ℕ) (so : Judging σ low high a to i before seen) where
-    pub judge_end : to ≤ i → Counts seen ≡ judged_of σ low high a to
+  module _ (i : ℕ) (before : Option ℕ) (seen : ℕ) (so : Judging σ low high a to i before seen) where
+    pub judge_end : to ≤ i → Ok seen ≡ judged_of σ low high a to
     unfolding judged_of
     judge_end h =
         let m : i - a ≡ to - a = omega (arith, so.inside) in
         let c : seen ≡ length (keys_in σ low high a to) = so.counts ∙ ap (λ (d : ℕ). length (between low high (stretch_of σ a d))) m in
-        rw (fail_end (fine_of σ a) a to i so.so_far h) (ap Counts c)
+        rw (fail_end (fine_of σ a) a to i so.so_far h) (ap Ok c)
 
     module _ (more : i < to) where
       pub judge_asks : Stretch σ a to → Seeable σ i seen
@@ -193,18 +178,18 @@ module _ (σ : Store) (low high a to : ℕ) where
             few = omega (arith, so.few, so.from, w.inside, w.limits.s_limit);
           }
 
-      module _ {w : Walked} (is : w ≡ seen_of σ low high i before seen) where
+      module _ {w : Option (Option ℕ × ℕ)} (is : w ≡ seen_of σ low high i before seen) where
         test : both (not (damaged_of σ.b σ.n (entry_in σ i))) (rising_from (floor_of before) (merged_in σ i)) ≡ fine_of σ a i
         unfolding fine_of
         test = rw so.last refl
 
-        pub judge_bad : w ≡ Fell → WrongAt i ≡ judged_of σ low high a to
+        pub judge_bad : w ≡ None → Err (StoreWrong i) ≡ judged_of σ low high a to
         unfolding judged_of
         judge_bad q =
             let f : _ = fail_here (fine_of σ a) a to i so.so_far more test (seen_fell σ low high i before seen (sym is ∙ q)) in
             rw f refl
 
-        module _ {last : Bound} {count : ℕ} (q : w ≡ Rose last count) where
+        module _ {last : Option ℕ} {count : ℕ} (q : w ≡ Some (last, count)) where
           passed : Passed σ low high i before seen last count
           passed = seen_rose σ low high i before seen last count (sym is ∙ q)
 
@@ -219,7 +204,7 @@ module _ (σ : Store) (low high a to : ℕ) where
               record {
                 from = omega (arith, so.from);
                 inside = omega (arith, so.from);
-                last = passed.last_is ∙ ap (λ (z : Bound). last_of z (merged_in σ i)) so.last ∙ before_next σ a i so.from;
+                last = passed.last_is ∙ ap (λ (z : Option ℕ). last_of z (merged_in σ i)) so.last ∙ before_next σ a i so.from;
                 counts = omega (arith, passed.more_is, so.counts, l);
                 few = omega (arith, passed.more_is, so.few, so.from, few, between_short low high (merged_in σ i));
                 so_far = fail_on (fine_of σ a) a to i so.so_far more test fine;
@@ -237,8 +222,8 @@ module _ (low high : ℕ) (run used out₀ : List ℕ) (at : ℕ) where
   pub keys_start : {m : Cursor} → Space out₀ at (length (between low high (merge run used))) → m ≡ pair_start → Putting low high run used out₀ at m out₀ at
   keys_start h e = rw (e, pair_all run used 0) (writing_start out₀ at (between low high (merge run used)) h.inside)
 
-  module _ (m : Cursor) (out : List ℕ) (p : ℕ) (so : Putting low high run used out₀ at m out p) {n : Next} (is : n ≡ next_of m run used 0) where
-    module _ (over_now : n ≡ Done) where
+  module _ (m : Cursor) (out : List ℕ) (p : ℕ) (so : Putting low high run used out₀ at m out p) {n : Option (ℕ × Cursor)} (is : n ≡ next_of m run used 0) where
+    module _ (over_now : n ≡ None) where
       done : Writing out₀ at (between low high (merge run used)) out p []
       unfolding between
       done = rw (next_end m run used 0 (sym is ∙ over_now)) at so
@@ -249,7 +234,7 @@ module _ (low high : ℕ) (run used out₀ : List ℕ) (at : ℕ) where
       pub keys_place : p ≡ at + length (between low high (merge run used))
       keys_place = writing_place out₀ at (between low high (merge run used)) out p done
 
-    module _ {k : ℕ} {past : Cursor} (key : n ≡ Key k past) where
+    module _ {k : ℕ} {past : Cursor} (key : n ≡ Some (k, past)) where
       head : rest_of m run used 0 ≡ k ∷ rest_of past run used 0
       head = next_key m run used 0 k past (sym is ∙ key)
 

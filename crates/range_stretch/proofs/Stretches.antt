@@ -1,5 +1,6 @@
 -- Laws of a stretch, of the last key of a list, and of a walk.
 -- Assumes nothing.
+use Rattle.std.specs.Prelude.{Option, Some, None}
 use mathlib.Core.Path.{◌≡◌, refl, sym, ap, ◌∙◌}
 use mathlib.Core.Bool.{true, false, not}
 use mathlib.Core.List.{List, [], ◌∷◌, ◌++◌, append-nil, append_assoc}
@@ -23,19 +24,16 @@ use Rattle.table.specs.Entries.{entry_in, run_in, used_in}
 use Rattle.table.specs.Damaged.{Sound, damaged_of}
 use Rattle.table.specs.Reads.{merged_in, stretch_of}
 use Rattle.table.proofs.Damages.{damaged_false}
-use Rattle.order.specs.declared.Bound.{Bound}
-use Rattle.order.specs.declared.Bound.TheVariants.{Free, By}
 use Rattle.order.specs.Bound.{floor_of, last_of}
 use Rattle.choose.specs.Stretch.{keys_in}
-use Rattle.range_stretch.specs.declared.Walked.TheVariants.{Rose, Fell}
 use Rattle.range_stretch.specs.Stretch.{before_in, fine_of, follows_of, walked_of, seen_of}
 
 -- ---- the key before
 
-pub last_append : (before : Bound) (xs ys : List ℕ) → last_of before (xs ++ ys) ≡ last_of (last_of before xs) ys
+pub last_append : (before : Option ℕ) (xs ys : List ℕ) → last_of before (xs ++ ys) ≡ last_of (last_of before xs) ys
 unfolding last_of
 last_append before [] ys = refl
-last_append before (x ∷ xs) ys = last_append (By x) xs ys
+last_append before (x ∷ xs) ys = last_append (Some x) xs ys
 
 -- ---- one segment more at the end of a stretch, and one less at its start
 
@@ -79,11 +77,11 @@ module _ (σ : Store) where
 
   -- the key before the next segment
   pub before_next : (a i : ℕ) → a ≤ i → last_of (before_in σ a i) (merged_in σ i) ≡ before_in σ a (i + 1)
-  before_next a i h = sym (ap (last_of Free) (stretch_next a i (i + 1 - a) h (omega arith)) ∙ last_append Free (stretch_of σ a (i - a)) (merged_in σ i))
+  before_next a i h = sym (ap (last_of None) (stretch_next a i (i + 1 - a) h (omega arith)) ∙ last_append None (stretch_of σ a (i - a)) (merged_in σ i))
 
-  pub before_first : (a : ℕ) → Free ≡ before_in σ a a
+  pub before_first : (a : ℕ) → None ≡ before_in σ a a
   unfolding last_of
-  before_first a = sym (ap (last_of Free) (stretch_none a (a - a) (omega arith)))
+  before_first a = sym (ap (last_of None) (stretch_none a (a - a) (omega arith)))
 
   -- a segment that is not damaged has few keys
   pub merged_few : (i : ℕ) → Limits σ → Sound σ.b σ.n (entry_in σ i) → length (merged_in σ i) ≤ cut_most
@@ -94,17 +92,17 @@ module _ (σ : Store) where
 
 -- ---- a walk, by its next key
 
-module _ (low high : ℕ) (before : Bound) (seen : ℕ) where
-  pub walked_none : walked_of low high before seen [] ≡ Rose before seen
+module _ (low high : ℕ) (before : Option ℕ) (seen : ℕ) where
+  pub walked_none : walked_of low high before seen [] ≡ Some (before, seen)
   unfolding walked_of up_of last_of between
-  walked_none = ap (λ (c : ℕ). Rose before c) (add-zero seen)
+  walked_none = ap (λ (c : ℕ). Some (before, c)) (add-zero seen)
 
   module _ (k : ℕ) (ks : List ℕ) where
-    pub walked_falls : follows_of before k ≡ false → walked_of low high before seen (k ∷ ks) ≡ Fell
+    pub walked_falls : follows_of before k ≡ false → walked_of low high before seen (k ∷ ks) ≡ None
     unfolding walked_of up_of
     walked_falls h = rw h refl
 
-    pub walked_on : follows_of before k ≡ true → walked_of low high before seen (k ∷ ks) ≡ walked_of low high (By k) (seen + length (between low high (k ∷ []))) ks
+    pub walked_on : follows_of before k ≡ true → walked_of low high before seen (k ∷ ks) ≡ walked_of low high (Some k) (seen + length (between low high (k ∷ []))) ks
     unfolding walked_of up_of last_of
     walked_on h =
         let c : seen + length (between low high (k ∷ ks)) ≡ seen + length (between low high (k ∷ [])) + length (between low high ks)
@@ -113,32 +111,32 @@ module _ (low high : ℕ) (before : Bound) (seen : ℕ) where
 
 -- ---- what the sight of a segment says
 
-pub record Passed (σ : Store) (low high i : ℕ) (before : Bound) (seen : ℕ) (last : Bound) (more : ℕ) : Type 0 where
+pub record Passed (σ : Store) (low high i : ℕ) (before : Option ℕ) (seen : ℕ) (last : Option ℕ) (more : ℕ) : Type 0 where
   pub sound : damaged_of σ.b σ.n (entry_in σ i) ≡ false
   pub rises : rising_from (floor_of before) (merged_in σ i) ≡ true
   pub last_is : last ≡ last_of before (merged_in σ i)
   pub more_is : more ≡ seen + length (between low high (merged_in σ i))
 
-apart : {C : Type 0} {last : Bound} {more : ℕ} → Fell ≡ Rose last more → C
+apart : {C : Type 0} {last : Option ℕ} {more : ℕ} → ◌≡◌ {A = Option (Option ℕ × ℕ)} None (Some (last, more)) → C
 apart e = absurd (let z : ◌≡◌ {A = ℕ} 0 1 = cc in omega arith)
 
-rose_last : {l l' : Bound} {m m' : ℕ} → Rose l m ≡ Rose l' m' → l ≡ l'
-rose_last e = cc
+rose_last : {l l' : Option ℕ} {m m' : ℕ} → ◌≡◌ {A = Option (Option ℕ × ℕ)} (Some (l, m)) (Some (l', m')) → l ≡ l'
+rose_last {l} {l'} {m} {m'} e = let p : ◌≡◌ {A = Option ℕ × ℕ} (l, m) (l', m') = cc in ap (λ (q : Option ℕ × ℕ). q.0) p
 
-rose_seen : {l l' : Bound} {m m' : ℕ} → Rose l m ≡ Rose l' m' → m ≡ m'
-rose_seen e = cc
+rose_seen : {l l' : Option ℕ} {m m' : ℕ} → ◌≡◌ {A = Option (Option ℕ × ℕ)} (Some (l, m)) (Some (l', m')) → m ≡ m'
+rose_seen {l} {l'} {m} {m'} e = let p : ◌≡◌ {A = Option ℕ × ℕ} (l, m) (l', m') = cc in ap (λ (q : Option ℕ × ℕ). q.1) p
 
-module _ (σ : Store) (low high i : ℕ) (before : Bound) (seen : ℕ) where
-  pub seen_rose : (last : Bound) (more : ℕ) → seen_of σ low high i before seen ≡ Rose last more → Passed σ low high i before seen last more
+module _ (σ : Store) (low high i : ℕ) (before : Option ℕ) (seen : ℕ) where
+  pub seen_rose : (last : Option ℕ) (more : ℕ) → seen_of σ low high i before seen ≡ Some (last, more) → Passed σ low high i before seen last more
   unfolding seen_of walked_of
   seen_rose last more h =
       either (damaged_of σ.b σ.n (entry_in σ i)) (λ t. apart (rw t at h))
       (λ t. either (rising_from (floor_of before) (merged_in σ i))
-      (λ u. let e : Rose (last_of before (merged_in σ i)) (seen + length (between low high (merged_in σ i))) ≡ Rose last more = rw (t, u) at h in
+      (λ u. let e : ◌≡◌ {A = Option (Option ℕ × ℕ)} (Some (last_of before (merged_in σ i), seen + length (between low high (merged_in σ i)))) (Some (last, more)) = rw (t, u) at h in
       record { sound = t; rises = u; last_is = sym (rose_last e); more_is = sym (rose_seen e) })
       (λ u. apart (rw (t, u) at h)))
 
-  pub seen_fell : seen_of σ low high i before seen ≡ Fell → both (not (damaged_of σ.b σ.n (entry_in σ i))) (rising_from (floor_of before) (merged_in σ i)) ≡ false
+  pub seen_fell : seen_of σ low high i before seen ≡ None → both (not (damaged_of σ.b σ.n (entry_in σ i))) (rising_from (floor_of before) (merged_in σ i)) ≡ false
   unfolding seen_of walked_of
   seen_fell h =
       either (damaged_of σ.b σ.n (entry_in σ i)) (λ t. rw t refl)

@@ -1,4 +1,5 @@
 -- What the functions ask, and how far their loops have come.
+use Rattle.std.specs.Prelude.{Option}
 use Rattle.std.specs.Prelude.{◌≡◌, List, ℕ, ◌+◌, ◌-◌, ◌*◌, ◌^◌, ◌≤◌, ◌<◌, length}
 use Rattle.lists.specs.Merge.{merge}
 use Rattle.lists.specs.Between.{between}
@@ -12,7 +13,6 @@ use Rattle.table.specs.Reads.{merged_in}
 use Rattle.scan.specs.Scan.{fails_of}
 use Rattle.order.specs.declared.Cursor.{Cursor}
 use Rattle.order.specs.Order.{rest_of}
-use Rattle.order.specs.declared.Bound.{Bound}
 use Rattle.choose.specs.Stretch.{keys_in}
 use Rattle.segment.specs.Lent.{Segment}
 use Rattle.range_stretch.specs.Stretch.{before_in, fine_of, walked_of}
@@ -28,7 +28,7 @@ pub record Few (seen : ℕ) (run used : List ℕ) : Type 0 where
   pub few : seen + (length run + length used) < 2 ^ 64
 
 -- the walk over a segment has come to m, past the key `last`: what is left decides
-pub record Walking (low high : ℕ) (before : Bound) (seen : ℕ) (run used : List ℕ) (last : Bound) (count : ℕ) (m : Cursor) : Type 0 where
+pub record Walking (low high : ℕ) (before : Option ℕ) (seen : ℕ) (run used : List ℕ) (last : Option ℕ) (count : ℕ) (m : Cursor) : Type 0 where
   pub few : count + length (rest_of m run used 0) < 2 ^ 64
   pub so_far : walked_of low high before seen (merge run used) ≡ walked_of low high last count (rest_of m run used 0)
 
@@ -45,7 +45,7 @@ pub record Stretch (σ : Store) (a to : ℕ) : Type 0 where
   pub inside : to ≤ σ.s
 
 -- the judging has come to segment i: what is left decides
-pub record Judging (σ : Store) (low high a to i : ℕ) (before : Bound) (seen : ℕ) : Type 0 where
+pub record Judging (σ : Store) (low high a to i : ℕ) (before : Option ℕ) (seen : ℕ) : Type 0 where
   pub from : a ≤ i
   pub inside : i - a ≤ to - a
   pub last : before ≡ before_in σ a i

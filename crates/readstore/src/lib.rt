@@ -1,10 +1,11 @@
 // The public calls for C and Rust: numbers and slices go in, and each answer comes back as eight numbers that the caller lends:
 // [0] the refusal's number, 0 if accepted; [1] its place; [2] a kind; [3].. values; unused ones 0.
+// A store's numbers and slices stay apart here, and the answer is lent: that is how C passes them.
 #![tactic(auto)]
 
 ghost use Rattle.std.specs.Prelude.{◌≡◌, length};
 ghost use Rattle.terms.specs.Limits.{sizes_of};
-ghost use Rattle.table.specs.Store.{store_of};
+ghost use Rattle.table.specs.Store.{store_of, store_in};
 ghost use Rattle.build.specs.Build.{built_of, table_by};
 ghost use Rattle.choose.specs.Stretch.{keys_from};
 ghost use Rattle.judge.specs.Check.{check_of};
@@ -16,10 +17,29 @@ ghost use Rattle.image_write.specs.Writing.{write_of, out_by};
 ghost use Rattle.image_read.specs.Loading.{load_of, keys_by, table_by as loaded_table, buffers_by};
 ghost use Rattle.readstore_numbers.specs.Numbers.{built_numbers, checked_numbers, looked_numbers, ranged_numbers, inserted_numbers, written_numbers, loaded_numbers};
 
-use readstore_numbers::{
-    built_numbers, checked_numbers, inserted_numbers, loaded_numbers, looked_numbers,
-    ranged_numbers, sizes_of, written_numbers,
-};
+use readstore_numbers::{answer_numbers, sizes_of};
+use table::Store;
+
+// The store that a call's numbers and slices are.
+fn lent<'a>(
+    keys: &'a [u64],
+    table: &'a [u64],
+    buffers: &'a [u64],
+    e: u64,
+    b: u64,
+    n: u64,
+    s: u64,
+) -> Store<'a>
+    ensures { store_in result ≡ store_of (sizes_of e b n s) keys.now table.now buffers.now }
+{
+    let sizes = sizes_of(e, b, n, s);
+    Store {
+        sizes,
+        keys,
+        table,
+        buffers,
+    }
+}
 
 // The first n keys are cut with the bound e, and the entries written. [3] is s.
 pub fn readstore_build(
@@ -42,7 +62,7 @@ pub fn readstore_build(
         table,
         buffers,
     );
-    *answer = built_numbers(a);
+    *answer = answer_numbers(a);
 }
 
 // Whether the store keeps every rule. [2] is 1 if it does.
@@ -58,9 +78,8 @@ pub fn readstore_check(
 )
     ensures { answer.new ≡ checked_numbers (check_of (store_of (sizes_of e b n s) keys.now table.now buffers.now)) }
 {
-    let z = sizes_of(e, b, n, s);
-    let a = judge::check(z, keys, table, buffers);
-    *answer = checked_numbers(a);
+    let a = judge::check(lent(keys, table, buffers, e, b, n, s));
+    *answer = answer_numbers(a);
 }
 
 // Where k stands. [2] is 0 absent; 1 in a run, [3] the position; 2 in a buffer, [3] the segment, [4] the slot.
@@ -77,9 +96,8 @@ pub fn readstore_lookup(
 )
     ensures { answer.new ≡ looked_numbers (lookup_of (store_of (sizes_of e b n s) keys.now table.now buffers.now) k) }
 {
-    let z = sizes_of(e, b, n, s);
-    let a = lookup::lookup(z, keys, table, buffers, k);
-    *answer = looked_numbers(a);
+    let a = lookup::lookup(lent(keys, table, buffers, e, b, n, s), k);
+    *answer = answer_numbers(a);
 }
 
 // The reads from low to high, both ends among them, from the out slice's start. [3] is how many.
@@ -99,9 +117,8 @@ pub fn readstore_range(
     ensures answered { answer.new ≡ ranged_numbers (range_of (store_of (sizes_of e b n s) keys.now table.now buffers.now) low high (length out.old)) }
     ensures written { out.new ≡ ranged_out (keys_from (store_of (sizes_of e b n s) keys.now table.now buffers.now) low high) (range_of (store_of (sizes_of e b n s) keys.now table.now buffers.now) low high (length out.old)) out.old }
 {
-    let z = sizes_of(e, b, n, s);
-    let a = range::range(z, keys, table, buffers, low, high, out);
-    *answer = ranged_numbers(a);
+    let a = range::range(lent(keys, table, buffers, e, b, n, s), low, high, out);
+    *answer = answer_numbers(a);
 }
 
 // k is taken in. [2] is 1 buffered, [3] the segment, [4] the slot; 2 merged, [3] the segment, [4] into how many, [5] the new n, [6] the new s.
@@ -123,7 +140,7 @@ pub fn readstore_insert(
 {
     let z = sizes_of(e, b, n, s);
     let a = insert::insert(z, keys, table, buffers, k);
-    *answer = inserted_numbers(a);
+    *answer = answer_numbers(a);
 }
 
 // The stored form of the store, from the out slice's start. [3] is its length in bytes.
@@ -141,9 +158,8 @@ pub fn readstore_image_write(
     ensures answered { answer.new ≡ written_numbers (write_of (store_of (sizes_of e b n s) keys.now table.now buffers.now) (length out.old)) }
     ensures written { out.new ≡ out_by (write_of (store_of (sizes_of e b n s) keys.now table.now buffers.now) (length out.old)) (store_of (sizes_of e b n s) keys.now table.now buffers.now) out.old }
 {
-    let z = sizes_of(e, b, n, s);
-    let a = image_write::write_image(z, keys, table, buffers, out);
-    *answer = written_numbers(a);
+    let a = image_write::write_image(lent(keys, table, buffers, e, b, n, s), out);
+    *answer = answer_numbers(a);
 }
 
 // A stored form read into the slices. [3] is e, [4] B, [5] n, [6] s.
@@ -160,5 +176,5 @@ pub fn readstore_image_read(
     ensures buffers { buffers.new ≡ buffers_by (load_of image.now keys.old table.old buffers.old) image.now buffers.old }
 {
     let a = image_read::read_image(image, keys, table, buffers);
-    *answer = loaded_numbers(a);
+    *answer = answer_numbers(a);
 }

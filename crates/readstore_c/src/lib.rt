@@ -1,5 +1,5 @@
 // The exports of the static library: each calls the function of `readstore` that has its name, and promises the same. What each call is for stands there
-// and in include/readstore.h.
+// and in include/readstore.h. The numbers and slices are apart, as C passes them.
 #![tactic(auto)]
 
 ghost use Rattle.std.specs.Prelude.{◌≡◌, length};

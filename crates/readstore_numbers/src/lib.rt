@@ -2,11 +2,11 @@
 // place; [2] a kind; [3].. values; unused ones 0.
 #![tactic(auto)]
 
-ghost use Rattle.std.specs.Prelude.{◌≡◌};
+ghost use Rattle.std.specs.Prelude.{◌≡◌, List, ℕ};
 ghost use Rattle.terms.specs.Limits.{sizes_of};
-ghost use Rattle.readstore_numbers.specs.Numbers.{refusal_numbers, built_numbers, checked_numbers, looked_numbers, ranged_numbers, inserted_numbers, written_numbers, loaded_numbers};
+ghost use Rattle.readstore_numbers.specs.Numbers.{refusal_numbers, answer_numbers, unit_numbers, count_numbers, found_numbers, taken_numbers, sizes_numbers};
 
-use answers::{Built, Checked, Inserted, Loaded, Looked, Ranged, Written};
+use answers::{Inserted, Looked};
 use terms::{Refusal, Sizes};
 
 // The four numbers of a store together.
@@ -20,119 +20,90 @@ pub fn sizes_of(e: u64, b: u64, n: u64, s: u64) -> Sizes
     Sizes { e, b, n, s }
 }
 
-fn word(x: usize) -> u64
-    ensures { result ≡ x }
-{
-    x as u64
+// What a call that does not refuse answers, as eight numbers.
+pub trait Numbers {
+    ghost numbers: { Self → List ℕ };
+
+    fn numbers(self) -> [u64; 8]
+        ensures { result ≡ numbers self };
 }
 
+// The check: every rule is kept.
+impl Numbers for () {
+    ghost numbers = { unit_numbers };
+
+    fn numbers(self) -> [u64; 8] {
+        [0, 0, 1, 0, 0, 0, 0, 0]
+    }
+}
+
+// Build: how many segments; range: how many keys were written; image writing: how many bytes.
+impl Numbers for usize {
+    ghost numbers = { count_numbers };
+
+    fn numbers(self) -> [u64; 8] {
+        [0, 0, 0, self as u64, 0, 0, 0, 0]
+    }
+}
+
+// Lookup.
+impl Numbers for Looked {
+    ghost numbers = { found_numbers };
+
+    #[tactic(auto, unfolding(crate::specs::Numbers::found_numbers))]
+    fn numbers(self) -> [u64; 8] {
+        match self {
+            Looked::Absent => [0, 0, 0, 0, 0, 0, 0, 0],
+            Looked::InRun(p) => [0, 0, 1, p.0 as u64, 0, 0, 0, 0],
+            Looked::InBuffer { segment, slot } => [0, 0, 2, segment as u64, slot as u64, 0, 0, 0],
+        }
+    }
+}
+
+// Insert.
+impl Numbers for Inserted {
+    ghost numbers = { taken_numbers };
+
+    #[tactic(auto, unfolding(crate::specs::Numbers::taken_numbers))]
+    fn numbers(self) -> [u64; 8] {
+        match self {
+            Inserted::Buffered { segment, slot } => [0, 0, 1, segment as u64, slot as u64, 0, 0, 0],
+            Inserted::Merged {
+                segment,
+                pieces,
+                n,
+                s,
+            } => {
+                let (i, t) = (segment as u64, pieces as u64);
+                [0, 0, 2, i, t, n as u64, s as u64, 0]
+            }
+        }
+    }
+}
+
+// Image reading.
+impl Numbers for Sizes {
+    ghost numbers = { sizes_numbers };
+
+    fn numbers(self) -> [u64; 8] {
+        let Sizes { e, b, n, s } = self;
+        [0, 0, 0, e as u64, b as u64, n as u64, s as u64, 0]
+    }
+}
+
+#[tactic(auto, unfolding(crate::specs::Numbers::refusal_numbers))]
 fn refusal_numbers(r: Refusal) -> [u64; 8]
     ensures { result ≡ refusal_numbers r }
 {
-    let number = terms::number(r);
-    let place = word(terms::place(r));
-    [number, place, 0, 0, 0, 0, 0, 0]
+    [terms::number(r), terms::place(r) as u64, 0, 0, 0, 0, 0, 0]
 }
 
-pub fn built_numbers(a: Built) -> [u64; 8]
-    ensures { result ≡ built_numbers a }
+// What a call answers.
+pub fn answer_numbers<T: Numbers>(a: Result<T, Refusal>) -> [u64; 8]
+    ensures { result ≡ answer_numbers T.numbers a }
 {
     match a {
-        Built::Made(s) => {
-            let segments = word(s);
-            [0, 0, 0, segments, 0, 0, 0, 0]
-        }
-        Built::Refused(r) => refusal_numbers(r),
-    }
-}
-
-pub fn checked_numbers(a: Checked) -> [u64; 8]
-    ensures { result ≡ checked_numbers a }
-{
-    match a {
-        Checked::Good => [0, 0, 1, 0, 0, 0, 0, 0],
-        Checked::Refused(r) => refusal_numbers(r),
-    }
-}
-
-pub fn looked_numbers(a: Looked) -> [u64; 8]
-    ensures { result ≡ looked_numbers a }
-{
-    match a {
-        Looked::Absent => [0, 0, 0, 0, 0, 0, 0, 0],
-        Looked::InRun(p) => {
-            let position = word(p.0);
-            [0, 0, 1, position, 0, 0, 0, 0]
-        }
-        Looked::InBuffer { segment, slot } => {
-            let i = word(segment);
-            let j = word(slot);
-            [0, 0, 2, i, j, 0, 0, 0]
-        }
-        Looked::Refused(r) => refusal_numbers(r),
-    }
-}
-
-pub fn ranged_numbers(a: Ranged) -> [u64; 8]
-    ensures { result ≡ ranged_numbers a }
-{
-    match a {
-        Ranged::Listed(m) => {
-            let many = word(m);
-            [0, 0, 0, many, 0, 0, 0, 0]
-        }
-        Ranged::Refused(r) => refusal_numbers(r),
-    }
-}
-
-pub fn inserted_numbers(a: Inserted) -> [u64; 8]
-    ensures { result ≡ inserted_numbers a }
-{
-    match a {
-        Inserted::Buffered { segment, slot } => {
-            let i = word(segment);
-            let j = word(slot);
-            [0, 0, 1, i, j, 0, 0, 0]
-        }
-        Inserted::Merged {
-            segment,
-            pieces,
-            n,
-            s,
-        } => {
-            let i = word(segment);
-            let t = word(pieces);
-            let keys = word(n);
-            let segments = word(s);
-            [0, 0, 2, i, t, keys, segments, 0]
-        }
-        Inserted::Refused(r) => refusal_numbers(r),
-    }
-}
-
-pub fn written_numbers(a: Written) -> [u64; 8]
-    ensures { result ≡ written_numbers a }
-{
-    match a {
-        Written::Bytes(z) => {
-            let bytes = word(z);
-            [0, 0, 0, bytes, 0, 0, 0, 0]
-        }
-        Written::Refused(r) => refusal_numbers(r),
-    }
-}
-
-pub fn loaded_numbers(a: Loaded) -> [u64; 8]
-    ensures { result ≡ loaded_numbers a }
-{
-    match a {
-        Loaded::Store { e, b, n, s } => {
-            let bound = word(e);
-            let slots = word(b);
-            let keys = word(n);
-            let segments = word(s);
-            [0, 0, 0, bound, slots, keys, segments, 0]
-        }
-        Loaded::Refused(r) => refusal_numbers(r),
+        Ok(x) => x.numbers(),
+        Err(r) => refusal_numbers(r),
     }
 }

@@ -1,7 +1,11 @@
 -- 01, "A key is at least 0 and below 2^44", and "strictly rising and below 2^44": said here and nowhere else, each as a statement and as a test.
-use Rattle.std.specs.Prelude.{Bool, List, ℕ, ◌≤◌, ◌<◌, leb, ltb}
+use Rattle.std.specs.Prelude.{Result, Ok, Err, Bool, List, ℕ, ◌≤◌, ◌<◌, leb, ltb}
 use Rattle.lists.specs.Rising.{Up, up_of}
-use Rattle.terms.specs.Limits.{key_limit}
+use Rattle.lists.specs.Tests.{pick}
+use Rattle.terms.specs.Limits.{key_limit, key_of}
+use Rattle.terms.specs.declared.Key.{Key}
+use Rattle.terms.specs.declared.Refusal.{Refusal}
+use Rattle.terms.specs.declared.Refusal.TheVariants.{LargeKey}
 
 -- a number is a key
 abbrev pub IsKey : ℕ → Type 0
@@ -9,6 +13,10 @@ IsKey k = k < key_limit
 
 abbrev pub is_key : ℕ → Bool
 is_key k = ltb k key_limit
+
+-- the key, or refusal 2
+abbrev pub key_given : ℕ → Result Key Refusal
+key_given k = pick (is_key k) (Ok (key_of k)) (Err (LargeKey (record { 0 = 0 })))
 
 -- it is none
 abbrev pub NoKey : ℕ → Type 0

@@ -3,7 +3,7 @@
 
 ghost use Rattle.std.specs.Prelude.{◌≡◌, Bool};
 ghost use Rattle.terms.specs.Limits.{in_use_of};
-ghost use Rattle.terms.specs.Keys.{is_key};
+ghost use Rattle.terms.specs.Keys.{is_key, key_given};
 ghost use Rattle.terms.specs.Refusals.{number_of, place_of};
 
 // A key is below this: 2^44.
@@ -60,6 +60,17 @@ pub fn in_use(z: Sizes) -> usize
     ensures { result ≡ in_use_of z }
 {
     z.e
+}
+
+// A number that is given as a key, or refusal 2.
+pub fn key_given(x: u64) -> Result<Key, Refusal>
+    ensures { result ≡ key_given x }
+{
+    if is_key(x) {
+        Ok(Key(x))
+    } else {
+        Err(Refusal::LargeKey(Pos(0)))
+    }
 }
 
 // Whether a number may be a key.
@@ -120,16 +131,13 @@ pub fn place(r: Refusal) -> usize
     ensures { result ≡ place_of r }
 {
     match r {
-        Refusal::Limits => 0,
-        Refusal::LargeKey(p) => p.0,
-        Refusal::NotRising(p) => p.0,
-        Refusal::Backwards => 0,
-        Refusal::Present => 0,
-        Refusal::KeyRoom => 0,
-        Refusal::SegmentRoom => 0,
-        Refusal::OutRoom => 0,
-        Refusal::StoreWrong(i) => i,
-        Refusal::Malformed(at) => at,
-        Refusal::BadLine(l) => l,
+        Refusal::LargeKey(p) | Refusal::NotRising(p) => p.0,
+        Refusal::StoreWrong(i) | Refusal::Malformed(i) | Refusal::BadLine(i) => i,
+        Refusal::Limits
+        | Refusal::Backwards
+        | Refusal::Present
+        | Refusal::KeyRoom
+        | Refusal::SegmentRoom
+        | Refusal::OutRoom => 0,
     }
 }

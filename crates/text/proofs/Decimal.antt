@@ -3,11 +3,13 @@
 use mathlib.Core.Path.{◌≡◌, refl, sym, ap, ◌∙◌}
 use mathlib.Core.List.{List, [], ◌∷◌}
 use Prim.Native.Nat.{ℕ, zero, suc, ◌+◌, ◌-◌, ◌*◌, ◌/◌, ◌%◌, ◌^◌, ◌≤◌, ◌<◌}
-use native.Mathlib.Nat.{pow-suc}
+use native.Mathlib.Nat.{pow-suc, one-le-pow}
 use native.Mathlib.Omega.{arith}
+use mir.Syntax.{w64}
+use mir.Val.{Fits}
 use lib.Dec.{leb}
 use lib.ListN.{length, set, length-append, length-set}
-use borrow.Author.Tests.{le-leb, lt-leb, leb-true, leb-false}
+use borrow.Author.Tests.{le-leb, lt-leb}
 use Rattle.lists.specs.Over.{over}
 use Rattle.lists.proofs.Tests.{either}
 use Rattle.lists.proofs.Over.{over_append}
@@ -31,44 +33,28 @@ pub decimal_most : (x : ℕ) → length (decimal_of x) ≤ 20
 unfolding width_of
 decimal_most x = omega (arith, decimal_length x, width_most 19 x)
 
--- ---- the loop that counts the digits: w are counted, and v is left
+-- ---- how many digits, by the greatest power of ten that is not above the number
 
-pub record Counting (x v w : ℕ) : Type 0 where
-  pub least : 1 ≤ w
-  pub most : w ≤ 20
-  pub small : v < 10 ^ (21 - w)
-  pub is : w + width_from (20 - w) v ≡ width_of x + 1
+powered : (more k x : ℕ) → k ≤ more → 10 ^ k ≤ x → x < 10 * 10 ^ k → width_from more x ≡ k + 1
+unfolding width_from
+powered zero k x h p q = omega arith
+powered (suc more) zero x h p q = simp (le-leb x 9 (omega arith))
+powered (suc more) (suc k) x h p q =
+    let e : 10 ^ suc k ≡ 10 ^ k * 10 = pow-suc 10 k in
+    let some : 1 ≤ 10 ^ k = one-le-pow k 10 (omega arith) in
+    simp (lt-leb x 9 (omega arith)) (omega (arith, powered more k (x / 10) (omega arith) (omega arith) (omega arith)))
 
-pub count_start : (x : ℕ) → x < 2 ^ 64 → Counting x x 1
+pub width_zero : (x : ℕ) → x ≡ 0 → 1 ≡ width_of x
+unfolding width_of width_from
+width_zero x e = simp e
+
+pub width_powered : (x k : ℕ) → k < 20 → 10 ^ k ≤ x → x < 10 * 10 ^ k → k + 1 ≡ width_of x
 unfolding width_of
-count_start x h = record { least = omega arith; most = omega arith; small = omega arith; is = omega arith }
+width_powered x k h p q = sym (powered 19 k x (omega arith) p q)
 
-module _ (x v w : ℕ) (state : Counting x v w) where
-  count_few : 9 < v → w < 20
-  count_few h = either (leb 20 w) (λ t. let e : 21 - w ≡ 1 = omega (arith, leb-true 20 w t) in let s : v < 10 ^ 1 = rw e at state.small in absurd (omega arith)) (λ t. leb-false 20 w t)
+pub ruleset width_cases = (width_zero, width_powered)
 
-  pub count_on : 9 < v → Counting x (v / 10) (w + 1)
-  unfolding width_from
-  count_on h =
-      let few : w < 20 = count_few h in
-      let e : 21 - w ≡ suc (20 - w) = omega arith in
-      let s : v < 10 ^ (20 - w) * 10 = rw (e, pow-suc 10 (20 - w)) at state.small in
-      let f : 20 - w ≡ suc (20 - (w + 1)) = omega arith in
-      let i : w + suc (width_from (20 - (w + 1)) (v / 10)) ≡ width_of x + 1 = simp (lt-leb v 9 h) at (rw f at state.is) in
-      let g : 21 - (w + 1) ≡ 20 - w = omega arith in
-      record { least = omega arith; most = omega arith; small = rw g (omega arith); is = omega arith }
-
-  last_one : (more : ℕ) → v ≤ 9 → width_from more v ≡ 1
-  unfolding width_from
-  last_one zero h = refl
-  last_one (suc more) h = simp (le-leb v 9 h)
-
-  pub count_end : v ≤ 9 → w ≡ width_of x
-  count_end h = omega (arith, state.is, last_one (20 - w) h)
-
-pub ruleset width_cases = (count_start, count_on, count_end)
-
--- ---- the loop that writes them, the last one first: `left` are still to be written, those of v
+-- ---- the loop that writes them, the last one first: those of v are still to be written, below p
 
 set_swap : (l : List ℕ) (i j a b : ℕ) → (i ≡ j → ⊥) → set (set l i a) j b ≡ set (set l j b) i a
 set_swap [] i j a b h = refl
@@ -83,44 +69,55 @@ set_past_over l at [] p v h = refl
 set_past_over l at (x ∷ xs) p v h =
     ap (λ (m : List ℕ). over m (suc at) xs) (set_swap l p at v x (λ e. omega arith)) ∙ set_past_over (set l at x) (suc at) xs p v (omega arith)
 
-pub record Putting (out₀ : List ℕ) (at x w : ℕ) (out : List ℕ) (v left : ℕ) : Type 0 where
-  pub width : w ≡ width_of x
-  pub most : w ≤ 20
+pub record Putting (out₀ : List ℕ) (at x past : ℕ) (out : List ℕ) (v p : ℕ) : Type 0 where
+  pub end : past ≡ at + width_of x
   pub same : length out ≡ length out₀
-  pub room : at + 20 ≤ length out₀
-  pub few : left ≤ w
-  pub is : over out at (digits_of left v) ≡ over out₀ at (digits_of w x)
+  pub room : past ≤ length out₀
+  pub least : at ≤ p
+  pub most : p ≤ past
+  pub is : over out at (digits_of (p - at) v) ≡ over out₀ at (decimal_of x)
 
-pub put_start : (out : List ℕ) (at x w : ℕ) → w ≡ width_of x → at + 20 ≤ length out → Putting out at x w out x w
+width_few : (x : ℕ) → width_of x ≤ 20
 unfolding width_of
-put_start out at x w e h = record { width = e; most = omega (arith, width_most 19 x); same = refl; room = h; few = omega arith; is = refl }
+width_few x = width_most 19 x
 
-module _ (out₀ : List ℕ) (at x w : ℕ) (out : List ℕ) (v left : ℕ) (state : Putting out₀ at x w out v left) where
-  pub put_on : 0 < left → Putting out₀ at x w (set out (at + (left - 1)) (48 + v % 10)) (v / 10) (left - 1)
+pub past_fits : (at x : ℕ) {w m : ℕ} → w ≡ width_of x → at + 20 ≤ m → Fits w64 m → Fits w64 (at + w)
+past_fits at x e h f = record { fits = omega (arith, width_few, f) }
+
+pub put_start : (out : List ℕ) (at x : ℕ) {w : ℕ} → w ≡ width_of x → at + 20 ≤ length out → Putting out at x (at + w) out x (at + w)
+unfolding decimal_of
+put_start out at x {w} e h =
+    let q : at + w - at ≡ width_of x = omega arith in
+    record { end = omega arith; same = refl; room = omega (arith, width_few x); least = omega arith; most = omega arith; is = rw q refl }
+
+module _ (out₀ : List ℕ) (at x past : ℕ) (out : List ℕ) (v p : ℕ) (state : Putting out₀ at x past out v p) where
+  pub put_on : at < p → Putting out₀ at x past (set out (p - 1) (48 + v % 10)) (v / 10) (p - 1)
   unfolding digits_of over
   put_on some =
-      let e : left ≡ suc (left - 1) = omega arith in
-      let d : length (digits_of (left - 1) (v / 10)) ≡ left - 1 = length_digits (left - 1) (v / 10) in
+      let i : ℕ = p - 1 in
+      let s : p - at ≡ suc (i - at) = omega arith in
+      let d : length (digits_of (i - at) (v / 10)) ≡ i - at = length_digits (i - at) (v / 10) in
+      let q : i ≡ at + length (digits_of (i - at) (v / 10)) = omega arith in
       record {
-        width = state.width;
-        most = state.most;
-        same = length-set out (at + (left - 1)) (48 + v % 10) ∙ state.same;
+        end = state.end;
+        same = length-set out i (48 + v % 10) ∙ state.same;
         room = state.room;
-        few = omega arith;
+        least = omega arith;
+        most = omega arith;
         is =
-            set_past_over out at (digits_of (left - 1) (v / 10)) (at + (left - 1)) (48 + v % 10) (omega arith)
-            ∙ ap (λ (p : ℕ). set (over out at (digits_of (left - 1) (v / 10))) (at + p) (48 + v % 10)) (sym d)
-            ∙ sym (over_append out at (digits_of (left - 1) (v / 10)) ((48 + v % 10) ∷ []))
-            ∙ (rw e at state.is);
+            set_past_over out at (digits_of (i - at) (v / 10)) i (48 + v % 10) (omega arith)
+            ∙ ap (λ (j : ℕ). set (over out at (digits_of (i - at) (v / 10))) j (48 + v % 10)) q
+            ∙ sym (over_append out at (digits_of (i - at) (v / 10)) ((48 + v % 10) ∷ []))
+            ∙ (rw s at state.is);
       }
 
-  pub put_past : left ≤ 0 → at + w ≡ at + length (decimal_of x)
-  put_past h = ap (λ (n : ℕ). at + n) (state.width ∙ sym (decimal_length x))
+  pub put_past : past ≡ at + length (decimal_of x)
+  put_past = omega (arith, decimal_length x)
 
-  pub put_end : left ≤ 0 → out ≡ over out₀ at (decimal_of x)
-  unfolding digits_of over decimal_of
+  pub put_end : p ≤ at → out ≡ over out₀ at (decimal_of x)
+  unfolding digits_of over
   put_end h =
-      let z : left ≡ 0 = omega arith in
-      (rw z at state.is) ∙ ap (λ (n : ℕ). over out₀ at (digits_of n x)) state.width
+      let z : p - at ≡ 0 = omega arith in
+      rw z at state.is
 
-pub ruleset put_cases = (put_start, put_on, put_past, put_end)
+pub ruleset put_cases = (past_fits, put_start, put_on, put_past, put_end)

@@ -10,7 +10,7 @@ ghost use Rattle.text.specs.Decimal.{width_of, decimal_of};
 pub const DIGITS_MOST: usize = 14;
 
 // What a byte is to a line.
-#[derive(Clone, Copy)]
+#[derive(Clone, Copy, Debug, PartialEq, Eq)]
 pub enum Symbol {
     Digit(u64),
     Newline,
@@ -18,7 +18,7 @@ pub enum Symbol {
 }
 
 // What stands at a place of the text.
-#[derive(Clone, Copy)]
+#[derive(Clone, Copy, Debug, PartialEq, Eq)]
 pub enum Line {
     // A number, and the place past its newline.
     Number(u64, usize),
@@ -26,19 +26,15 @@ pub enum Line {
     End,
 }
 
+#[tactic(auto, using(crate::proofs::Lines::symbol_cases))]
 fn symbol_of(c: u8) -> Symbol
     ensures { result ≡ symbol_of c }
 {
-    if c == 10 {
-        return Symbol::Newline;
+    match c {
+        b'\n' => Symbol::Newline,
+        b'0'..=b'9' => Symbol::Digit(u64::from(c - b'0')),
+        _ => Symbol::Other,
     }
-    if c < 48 {
-        return Symbol::Other;
-    }
-    if 57 < c {
-        return Symbol::Other;
-    }
-    Symbol::Digit((c - 48) as u64)
 }
 
 // The line that starts at `at`. What is longer than a line may be is malformed as soon as that shows.
@@ -50,28 +46,22 @@ pub fn line_at(text: &[u8], at: usize) -> Line
     if text.len() <= at {
         return Line::End;
     }
-    let mut p = at;
-    let mut v: u64 = 0;
-    let mut n: usize = 0;
-    while p < text.len() {
-        let y = symbol_of(text[p]);
-        match y {
+    let rest = &text[at..];
+    let mut v = 0;
+    for (n, c) in rest.iter().enumerate() {
+        match symbol_of(*c) {
             Symbol::Newline => {
                 if n == 0 {
                     return Line::Bad;
                 }
-                return Line::Number(v, p + 1);
+                return Line::Number(v, at + n + 1);
             }
-            Symbol::Other => {
-                return Line::Bad;
-            }
+            Symbol::Other => return Line::Bad,
             Symbol::Digit(d) => {
                 if DIGITS_MOST <= n {
                     return Line::Bad;
                 }
                 v = v * 10 + d;
-                n += 1;
-                p += 1;
             }
         }
     }
@@ -79,32 +69,28 @@ pub fn line_at(text: &[u8], at: usize) -> Line
 }
 
 // How many digits a number takes.
+#[tactic(auto, using(crate::proofs::Decimal::width_cases))]
 fn width(x: u64) -> usize
     ensures { result ≡ width_of x }
 {
-    let mut v = x;
-    let mut w: usize = 1;
-    while 9 < v {
-        v = v / 10;
-        w += 1;
+    match x.checked_ilog10() {
+        Some(power) => power as usize + 1,
+        None => 1,
     }
-    w
 }
 
 // The number's digits over the bytes from `at` on; the place past them.
+#[tactic(auto, using(crate::proofs::Decimal::put_cases))]
 pub fn put_number(out: &mut [u8], at: usize, x: u64) -> usize
     requires { at + 20 ≤ length out.old }
     ensures past { result ≡ at + length (decimal_of x) }
     ensures written { out.new ≡ over out.old at (decimal_of x) }
 {
-    let w = width(x);
+    let past = at + width(x);
     let mut v = x;
-    let mut left = w;
-    while 0 < left {
-        left -= 1;
-        let p = at + left;
-        out[p] = 48 + (v % 10) as u8;
-        v = v / 10;
+    for p in (at..past).rev() {
+        out[p] = b'0' + (v % 10) as u8;
+        v /= 10;
     }
-    at + w
+    past
 }

@@ -1,6 +1,8 @@
 -- Demand 2, "From a store the check accepts, if only our inserts write to it, what is present, absent, listed or already there is what a plain sorted
 -- list of all reads loaded and taken in says." For any list of keys given to insert, each taken in or refused.
 -- Assumes nothing.
+use Rattle.std.specs.Prelude.{Result, Ok, Err}
+use Rattle.terms.specs.declared.Refusal.{Refusal}
 use mathlib.Core.Path.{◌≡◌, refl, sym, ap, subst, ◌∙◌}
 use mathlib.Core.List.{List, [], ◌∷◌}
 use mathlib.Core.Logic.{◌⊎◌, inl, inr, ⊎_elim}
@@ -18,7 +20,6 @@ use Rattle.answers.specs.declared.Looked.TheVariants.{Absent}
 use Rattle.lookup.specs.Lookup.{lookup_of}
 use Rattle.judge.specs.Rules.{Accepted}
 use Rattle.judge.specs.Check.{check_of}
-use Rattle.answers.specs.declared.Checked.TheVariants.{Good}
 use Rattle.judge_laws.proofs.Meaning.{accepted_good}
 use Rattle.judge_laws.proofs.Segments.{reads_rise}
 use Rattle.choose.specs.Stretch.{keys_from}
@@ -26,7 +27,7 @@ use Rattle.theory_stretch.proofs.Stretch.{range_is}
 use Rattle.theory_shown.specs.Found.{Finds, Holds}
 use Rattle.theory_shown.proofs.Found.{found_read, read_held, unread_absent, absent_unread}
 use Rattle.answers.specs.declared.Inserted.{Inserted}
-use Rattle.answers.specs.declared.Inserted.TheVariants.{Buffered, Merged, Refused}
+use Rattle.answers.specs.declared.Inserted.TheVariants.{Buffered, Merged}
 use Rattle.insert.specs.Insert.{insert_of}
 use Rattle.theory_kept.specs.After.{after_one, after, list_by, taken_by, taken, insert_all}
 use Rattle.theory_kept.proofs.Outcome.{read_refused, refused_read}
@@ -34,11 +35,11 @@ use Rattle.theory_kept.proofs.Kept.{insert_accepted, insert_reads}
 
 -- ---- the plain list
 
-insert_first : (a : Inserted) (k : ℕ) (ks l : List ℕ) → insert_all ks (list_by a k l) ≡ insert_all (taken_by a k ks) l
+insert_first : (a : Result Inserted Refusal) (k : ℕ) (ks l : List ℕ) → insert_all ks (list_by a k l) ≡ insert_all (taken_by a k ks) l
 unfolding insert_all
-insert_first (Buffered i j) k ks l = refl
-insert_first (Merged i t n s) k ks l = refl
-insert_first (Refused r) k ks l = refl
+insert_first (Ok (Buffered i j)) k ks l = refl
+insert_first (Ok (Merged i t n s)) k ks l = refl
+insert_first (Err r) k ks l = refl
 
 -- what is in it is what was in the list, or is one of the keys put in
 pub all_in : (j : ℕ) (ks l : List ℕ) → In j (insert_all ks l) → In j l ⊎ In j ks
@@ -84,7 +85,7 @@ module _ (σ : Store) (ok : Accepted σ) (ks : List ℕ) where
   fine = after_accepted ks σ ok
 
   -- The check says yes to what any inserts leave of an accepted store.
-  pub inserts_good : check_of τ ≡ Good
+  pub inserts_good : check_of τ ≡ Ok tt
   inserts_good = accepted_good τ fine
 
   to_plain : (k : ℕ) → In k (reads τ) → In k plain
@@ -116,17 +117,17 @@ module _ (σ : Store) (ok : Accepted σ) (ks : List ℕ) where
   found_plain k f = to_plain k (found_read τ fine k f)
 
   -- "absent": of every other key lookup says so.
-  pub plain_absent : (k : ℕ) → IsKey k → (In k plain → ⊥) → lookup_of τ k ≡ Absent
+  pub plain_absent : (k : ℕ) → IsKey k → (In k plain → ⊥) → lookup_of τ k ≡ Ok Absent
   plain_absent k small other = unread_absent τ fine k small (λ i. other (to_plain k i))
 
-  pub absent_plain : (k : ℕ) → lookup_of τ k ≡ Absent → In k plain → ⊥
+  pub absent_plain : (k : ℕ) → lookup_of τ k ≡ Ok Absent → In k plain → ⊥
   absent_plain k e i = absent_unread τ fine k e (from_plain k i)
 
   -- "already there": insert refuses by 5 exactly the keys of the plain list.
-  pub plain_refused : (k : ℕ) → In k plain → insert_of τ k ≡ Refused Present
+  pub plain_refused : (k : ℕ) → In k plain → insert_of τ k ≡ Err Present
   plain_refused k i = read_refused τ fine k (from_plain k i)
 
-  pub refused_plain : (k : ℕ) → insert_of τ k ≡ Refused Present → In k plain
+  pub refused_plain : (k : ℕ) → insert_of τ k ≡ Err Present → In k plain
   refused_plain k e = to_plain k (refused_read τ fine k e)
 
   -- "listed": the keys from low to high of the stretch that a range looks at are those of the plain list.

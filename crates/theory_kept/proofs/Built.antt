@@ -1,5 +1,7 @@
 -- What build leaves is accepted by the check, and reads as the keys that were given; so the plain list of "all reads loaded and taken in" starts as these.
 -- Assumes nothing.
+use Rattle.std.specs.Prelude.{Result, Ok}
+use Rattle.terms.specs.declared.Refusal.{Refusal}
 use mathlib.Core.Path.{◌≡◌, sym, ap, subst, ◌∙◌}
 use mathlib.Core.List.{List, [], ◌∷◌, ◌++◌, append-nil}
 use Prim.Native.Nat.{ℕ, ◌+◌, ◌-◌, ◌*◌, ◌<◌}
@@ -14,14 +16,11 @@ use Rattle.table.specs.Reads.{reads}
 use Rattle.table.proofs.Limits.{Holds as Roomy, room_holds}
 use Rattle.judge.specs.Rules.{Accepted}
 use Rattle.judge.specs.Check.{check_of}
-use Rattle.answers.specs.declared.Checked.TheVariants.{Good}
 use Rattle.judge_laws.proofs.Meaning.{accepted_good}
 use Rattle.cone.specs.Rule.{cut}
 use Rattle.cone.specs.Keys.{Cuttable}
 use Rattle.cutting.specs.Rows.{rows_of}
 use Rattle.cutting.proofs.Rows.{rows_length}
-use Rattle.answers.specs.declared.Built.{Built}
-use Rattle.answers.specs.declared.Built.TheVariants.{Made}
 use Rattle.build.specs.Build.{Takes, built_of, table_by}
 use Rattle.build.proofs.Laws.{good_cuttable}
 use Rattle.build_laws.specs.Builds.{Builds, Accepted as Taken}
@@ -45,9 +44,9 @@ bare_whole e b lo hi ks (y ∷ ys) c u =
 
 -- the store after a build that answered s
 abbrev pub built_store : ℕ → ℕ → ℕ → ℕ → List ℕ → List ℕ → List ℕ → Store
-built_store e b n s keys table buffers = store_of (sizes_of e b n s) keys (table_by (Made s) e n keys table) buffers
+built_store e b n s keys table buffers = store_of (sizes_of e b n s) keys (table_by (Ok s) e n keys table) buffers
 
-module _ (e b n s : ℕ) (keys table buffers : List ℕ) (made : built_of e b n keys table buffers ≡ Made s) where
+module _ (e b n s : ℕ) (keys table buffers : List ℕ) (made : built_of e b n keys table buffers ≡ Ok s) where
   abbrev ks : List ℕ
   ks = take n keys
 
@@ -58,7 +57,7 @@ module _ (e b n s : ℕ) (keys table buffers : List ℕ) (made : built_of e b n 
   σ = built_store e b n s keys table buffers
 
   facts : Taken e b n keys table buffers s
-  facts = made_accepted e b n keys table buffers s (subst (λ (a : Built). Builds e b n keys table buffers a) made (answers e b n keys table buffers))
+  facts = made_accepted e b n keys table buffers s (subst (λ (a : Result ℕ Refusal). Builds e b n keys table buffers a) made (answers e b n keys table buffers))
 
   takes : Takes e b n keys
   takes = facts.sound.takes
@@ -106,7 +105,7 @@ module _ (e b n s : ℕ) (keys table buffers : List ℕ) (made : built_of e b n 
   pub built_accepted : Accepted σ
   built_accepted = shown_accepted σ limits new shown (bare_whole e b _ _ ks new is_cut cuttable.rising)
 
-  pub built_good : check_of σ ≡ Good
+  pub built_good : check_of σ ≡ Ok tt
   built_good = accepted_good σ built_accepted
 
   pub built_reads : reads σ ≡ take n keys

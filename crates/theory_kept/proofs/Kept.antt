@@ -1,6 +1,7 @@
 -- Demand 2 and demand 3, "so is whatever our inserts leave of an accepted store": after an insert the store is accepted, and its reads are the
 -- same list, with k in its place if it was taken in. And what a merge leaves is the cut of the merged list.
 -- Assumes nothing.
+use Rattle.std.specs.Prelude.{Result, Ok, Err}
 use mathlib.Core.Path.{◌≡◌, refl, sym, ap, subst, ◌∙◌}
 use mathlib.Core.List.{List, [], ◌∷◌, ◌++◌}
 use Prim.Native.Nat.{ℕ, zero, suc, ◌+◌, ◌-◌, ◌*◌, ◌≤◌, ◌<◌}
@@ -31,7 +32,7 @@ use Rattle.theory_shown.proofs.Shown.{stretch_reads, shown_reads}
 use Rattle.theory_shown.proofs.Accepts.{shown_accepted}
 use Rattle.theory_shown.proofs.Views.{first_of_seg, all_of_lem, length_segs, segs_split, length_used, accepted_chain, accepted_shown}
 use Rattle.answers.specs.declared.Inserted.{Inserted}
-use Rattle.answers.specs.declared.Inserted.TheVariants.{Buffered, Merged, Refused}
+use Rattle.answers.specs.declared.Inserted.TheVariants.{Buffered, Merged}
 use Rattle.insert_write.specs.Merged.{merged_with, pieces_of}
 use Rattle.insert.specs.Insert.{insert_of}
 use Rattle.insert_write.specs.Cells.{put_slots, joined_keys, merged_keys, merged_table, merged_slots}
@@ -116,7 +117,7 @@ module _ (σ : Store) (ok : Accepted σ) (k i : ℕ) (wanted : Wanted σ k i) wh
 
   module _ (j : ℕ) (room : (entry_in σ i).held + 1 < σ.b) where
     abbrev put_store : Store
-    put_store = store_by (Buffered i j) σ k
+    put_store = store_by (Ok (Buffered i j)) σ k
 
     used_room : length x.used + 1 < σ.b
     used_room = omega (arith, used_length)
@@ -151,7 +152,7 @@ module _ (σ : Store) (ok : Accepted σ) (k i : ℕ) (wanted : Wanted σ k i) wh
     new = cut_segs (in_use σ) (merged_with σ i k)
 
     abbrev cut_store : Store
-    cut_store = store_by (Merged i t (σ.n + σ.b) (σ.s - 1 + t)) σ k
+    cut_store = store_by (Ok (Merged i t (σ.n + σ.b) (σ.s - 1 + t))) σ k
 
     some_slots : 0 < σ.b
     some_slots = omega (arith, ok.limits.b_least)
@@ -238,16 +239,16 @@ module _ (σ : Store) (ok : Accepted σ) (k i : ℕ) (wanted : Wanted σ k i) wh
     cut_reads = new_reads new cut_swap cut_store cut_shown
 
 -- an answer with what it leaves
-record Kept (σ : Store) (k : ℕ) (a : Inserted) : Type 0 where
+record Kept (σ : Store) (k : ℕ) (a : Result Inserted Refusal) : Type 0 where
   accepted : Accepted (store_by a σ k)
   reads_as : reads (store_by a σ k) ≡ list_by a k (reads σ)
   leaves : Leaves σ k a
 
 module _ (σ : Store) (ok : Accepted σ) (k : ℕ) where
-  same : (r : Refusal) → Kept σ k (Refused r)
+  same : (r : Refusal) → Kept σ k (Err r)
   same r = record { accepted = ok; reads_as = refl; leaves = tt }
 
-  by_outcome : {a : Inserted} → Outcome σ k a → Kept σ k a
+  by_outcome : {a : Result Inserted Refusal} → Outcome σ k a → Kept σ k a
   by_outcome (large h) = same _
   by_outcome (present h r) = same _
   by_outcome (no_keys d h) = same _
@@ -271,5 +272,5 @@ module _ (σ : Store) (ok : Accepted σ) (k : ℕ) where
   insert_reads = kept.reads_as
 
   -- "our merge cut[s] any list of keys as the published ShrinkingCone rule does": a merge leaves exactly the cut of the segment's reads with k among them.
-  pub merge_recuts : {i t n s : ℕ} → insert_of σ k ≡ Merged i t n s → Recut σ k i t n s
-  merge_recuts e = subst (λ (a : Inserted). Leaves σ k a) e kept.leaves
+  pub merge_recuts : {i t n s : ℕ} → insert_of σ k ≡ Ok (Merged i t n s) → Recut σ k i t n s
+  merge_recuts e = subst (λ (a : Result Inserted Refusal). Leaves σ k a) e kept.leaves

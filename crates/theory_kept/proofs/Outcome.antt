@@ -1,6 +1,8 @@
 -- Insert on an accepted store: which answer it gives, and when. It never says that the store is wrong, and refuses by 5 exactly where the plain
 -- list has the key.
 -- Assumes nothing.
+use Rattle.std.specs.Prelude.{Result, Ok, Err}
+use Rattle.terms.specs.declared.Refusal.{Refusal}
 use mathlib.Core.Path.{◌≡◌, refl, sym, subst, ◌∙◌}
 use mathlib.Core.List.{List}
 use Prim.Native.Nat.{ℕ, ◌+◌, ◌-◌, ◌<◌}
@@ -24,7 +26,7 @@ use Rattle.lookup_laws.specs.Answers.{in_run, in_buffer}
 use Rattle.theory_shown.proofs.Views.{length_run, length_used}
 use Rattle.theory_shown.proofs.Found.{run_in_lem, slot_in, answer_read, missing_unread}
 use Rattle.answers.specs.declared.Inserted.{Inserted}
-use Rattle.answers.specs.declared.Inserted.TheVariants.{Buffered, Refused}
+use Rattle.answers.specs.declared.Inserted.TheVariants.{Buffered}
 use Rattle.insert_write.specs.Merged.{merged_with, Passes}
 use Rattle.insert.specs.Insert.{insert_of}
 use Rattle.insert_laws.specs.Answers.{New, Due as Full, Ready, Answers, buffered as slotted, merged as joined, refused_1, refused_2, refused_9_entry, refused_9_buffer, refused_5_run, refused_5_slot, refused_9_merged, refused_9_later, refused_6, refused_7}
@@ -86,9 +88,9 @@ module _ (σ : Store) (ok : Accepted σ) (k : ℕ) where
   due_by : {i : ℕ} → Full σ k i → Due σ k i
   due_by w = record { wanted = wanted_by w.new; full = w.full }
 
-  by_answer : {a : Inserted} → Answers σ k a → Outcome σ k a
+  by_answer : {a : Result Inserted Refusal} → Answers σ k a → Outcome σ k a
   by_answer (slotted {i} {j} w h p) =
-      subst (λ (m : ℕ). Outcome σ k (Buffered i m)) (one_place k (used_in σ i) (place_of k (used_in σ i)) j (place_is k (used_in σ i)) p) (buffered (wanted_by w) h)
+      subst (λ (m : ℕ). Outcome σ k (Ok (Buffered i m))) (one_place k (used_in σ i) (place_of k (used_in σ i)) j (place_is k (used_in σ i)) p) (buffered (wanted_by w) h)
   by_answer (joined w h r) = merged (due_by w.rising.due) h r
   by_answer (refused_1 w) = absurd (w ok.limits)
   by_answer (refused_2 l h) = large h
@@ -107,7 +109,7 @@ module _ (σ : Store) (ok : Accepted σ) (k : ℕ) where
 
   -- ---- and so, refusal by refusal
 
-  by_says : {a : Inserted} → Outcome σ k a → Says σ k a
+  by_says : {a : Result Inserted Refusal} → Outcome σ k a → Says σ k a
   by_says (large h) = h
   by_says (present h r) = r
   by_says (buffered w r) = w
@@ -119,7 +121,7 @@ module _ (σ : Store) (ok : Accepted σ) (k : ℕ) where
   pub says : Says σ k (insert_of σ k)
   says = by_says outcome
 
-  by_present : {a : Inserted} → Outcome σ k a → In k (reads σ) → a ≡ Refused Present
+  by_present : {a : Result Inserted Refusal} → Outcome σ k a → In k (reads σ) → a ≡ Err Present
   by_present (large h) r = absurd (omega (arith, h, rising_key k (reads σ) (reads_rise σ ok) r))
   by_present (present h r) g = refl
   by_present (buffered w h) r = absurd (w.other r)
@@ -128,25 +130,25 @@ module _ (σ : Store) (ok : Accepted σ) (k : ℕ) where
   by_present (merged d h g) r = absurd (d.wanted.other r)
 
   -- 2 is given exactly where k is no key.
-  pub large_refused : NoKey k → insert_of σ k ≡ Refused (LargeKey (record { 0 = 0 }))
-  large_refused h = sym (only σ k (Refused (LargeKey (record { 0 = 0 }))) (refused_2 ok.limits h))
+  pub large_refused : NoKey k → insert_of σ k ≡ Err (LargeKey (record { 0 = 0 }))
+  large_refused h = sym (only σ k (Err (LargeKey (record { 0 = 0 }))) (refused_2 ok.limits h))
 
-  pub refused_large : {p : Pos} → insert_of σ k ≡ Refused (LargeKey p) → NoKey k
-  refused_large e = subst (λ (a : Inserted). Says σ k a) e says
+  pub refused_large : {p : Pos} → insert_of σ k ≡ Err (LargeKey p) → NoKey k
+  refused_large e = subst (λ (a : Result Inserted Refusal). Says σ k a) e says
 
   -- "already there": 5 is given exactly where k is one of the reads.
-  pub read_refused : In k (reads σ) → insert_of σ k ≡ Refused Present
+  pub read_refused : In k (reads σ) → insert_of σ k ≡ Err Present
   read_refused r = by_present outcome r
 
-  pub refused_read : insert_of σ k ≡ Refused Present → In k (reads σ)
-  refused_read e = subst (λ (a : Inserted). Says σ k a) e says
+  pub refused_read : insert_of σ k ≡ Err Present → In k (reads σ)
+  refused_read e = subst (λ (a : Result Inserted Refusal). Says σ k a) e says
 
   -- It says neither that the store is wrong (9) nor that it is out of its limits (1).
-  pub never_wrong : {j : ℕ} → insert_of σ k ≡ Refused (StoreWrong j) → ⊥
-  never_wrong e = subst (λ (a : Inserted). Says σ k a) e says
+  pub never_wrong : {j : ℕ} → insert_of σ k ≡ Err (StoreWrong j) → ⊥
+  never_wrong e = subst (λ (a : Result Inserted Refusal). Says σ k a) e says
 
-  pub never_limits : insert_of σ k ≡ Refused OutOfLimits → ⊥
-  never_limits e = subst (λ (a : Inserted). Says σ k a) e says
+  pub never_limits : insert_of σ k ≡ Err OutOfLimits → ⊥
+  never_limits e = subst (λ (a : Result Inserted Refusal). Says σ k a) e says
 
   -- ---- and no other answer has such a reason
 
@@ -154,7 +156,7 @@ module _ (σ : Store) (ok : Accepted σ) (k : ℕ) where
   ready_by {i} d = ready_here i d.wanted d.full
 
   -- An answer that has such a reason is insert's.
-  pub outcome_only : {a : Inserted} → Outcome σ k a → a ≡ insert_of σ k
+  pub outcome_only : {a : Result Inserted Refusal} → Outcome σ k a → a ≡ insert_of σ k
   outcome_only (large h) = sym (large_refused h)
   outcome_only (present h r) = sym (read_refused r)
   outcome_only (buffered {i} w h) = only σ k _ (slotted (new_here i w) h (place_is k (used_in σ i)))

@@ -1,5 +1,6 @@
 -- The cells after an insert show the list of segments with the new ones in the place of the old one.
 -- Assumes nothing.
+use Rattle.std.specs.Prelude.{Ok}
 use mathlib.Core.Path.{◌≡◌, refl, sym, ap, subst, ◌∙◌}
 use mathlib.Core.List.{List, [], ◌∷◌, ◌++◌, append_assoc}
 use Prim.Native.Nat.{ℕ, suc, ◌+◌, ◌-◌, ◌*◌, ◌≤◌, ◌<◌}
@@ -127,7 +128,7 @@ module _ (σ : Store) (i k : ℕ) (pre post : List Seg) (x : Seg) (n : length pr
           ∙ ap (λ (m : ℕ). rows 0 pre ++ (x.first ∷ (at ∷ (x.rise ∷ (x.run ∷ (m ∷ (rows (at + length x.keys) post ++ w.more))))))) v
           ∙ sym (append_assoc (rows 0 pre) (rows at (buffered k x ∷ post)) w.more) ∙ ap (λ (l : List ℕ). l ++ w.more) (sym (rows_of_lem (buffered k x ∷ post)))
 
-      pub buffered_shown : (j : ℕ) → Shown (store_by (Buffered i j) σ k) 0 0 (pre ++ (buffered k x ∷ post))
+      pub buffered_shown : (j : ℕ) → Shown (store_by (Ok (Buffered i j)) σ k) 0 0 (pre ++ (buffered k x ∷ post))
       buffered_shown j =
           let z : 0 * σ.b ≡ 0 = omega arith in
           record {
@@ -242,7 +243,7 @@ module _ (σ : Store) (i k : ℕ) (pre post : List Seg) (x : Seg) (n : length pr
             length-drop c σ.buffers,
           )
 
-      pub merged_shown : Shown (store_by (Merged i t (σ.n + σ.b) (σ.s - 1 + t)) σ k) 0 0 (pre ++ (new ++ post))
+      pub merged_shown : Shown (store_by (Ok (Merged i t (σ.n + σ.b) (σ.s - 1 + t))) σ k) 0 0 (pre ++ (new ++ post))
       merged_shown =
           let z : 0 * σ.b ≡ 0 = omega arith in
           record {

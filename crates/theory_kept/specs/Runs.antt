@@ -1,5 +1,8 @@
 -- 01, "Runs on the ramp", P9 to P12, on the printed store. Two tables, and a theorem over each, which computes.
 -- The slices have room: 16 keys, 8 entries, 16 slots; every cell past the counts, and every unused slot, holds 7.
+use Rattle.std.specs.Prelude.{Option, Some, Result, Ok, Err}
+use Rattle.terms.specs.declared.Pos.{Pos}
+use Rattle.terms.specs.declared.Refusal.{Refusal}
 use Rattle.std.specs.Prelude.{◌≡◌, refl, List, [], ◌∷◌, ◌++◌, ℕ, zero, suc, ◌-◌}
 use Rattle.lists.specs.Tests.{all, any}
 use Rattle.lists.specs.Rising.{up_of}
@@ -8,8 +11,6 @@ use Rattle.lists.specs.Merge.{turns_of, merge, insert_sorted, place_of}
 use Rattle.terms.specs.Limits.{key_of, sizes_of}
 use Rattle.terms.specs.declared.Refusal.TheVariants.{SegmentRoom}
 use Rattle.scan.specs.Scan.{first_passing, lowest_of, fails_of}
-use Rattle.line.specs.declared.Guessed.{Guessed}
-use Rattle.line.specs.declared.Guessed.TheVariants.{At}
 use Rattle.line.specs.declared.Span.{Span}
 use Rattle.line.specs.Line.{guess_of, window_of, reach_of}
 use Rattle.table.specs.Store.{Store, store_of, in_use}
@@ -24,7 +25,7 @@ use Rattle.answers.specs.declared.Looked.{Looked}
 use Rattle.answers.specs.declared.Looked.TheVariants.{Absent}
 use Rattle.lookup.specs.Lookup.{buffered_of, searched_of, lookup_of}
 use Rattle.answers.specs.declared.Inserted.{Inserted}
-use Rattle.answers.specs.declared.Inserted.TheVariants.{Buffered, Merged, Refused}
+use Rattle.answers.specs.declared.Inserted.TheVariants.{Buffered, Merged}
 use Rattle.insert_pieces.specs.Judged.{cutting_of}
 use Rattle.insert_decide.specs.Weighed.{rest_of, weighed_of}
 use Rattle.insert_decide.specs.Decided.{passes_of, later_of, roomed_of, room_for, merge_for, sound_for, decided_of}
@@ -54,18 +55,18 @@ printed = printed_in 30
 pub record LookRun : Type 0 where
   pub store : Store
   pub key : ℕ
-  pub guess : Guessed
+  pub guess : Option Pos
   pub window : List ℕ
-  pub answer : Looked
+  pub answer : Result Looked Refusal
 
-abbrev pub looks : Store → ℕ → Guessed → List ℕ → Looked → LookRun
+abbrev pub looks : Store → ℕ → Option Pos → List ℕ → Result Looked Refusal → LookRun
 looks σ k guess window answer = record { store = σ; key = k; guess = guess; window = window; answer = answer }
 
 -- P9 "lookup 25, window 0 to 2, absent"; P10 "lookup 99, guess 8, window empty"
 abbrev pub look_runs : List LookRun
 look_runs =
-    looks printed 25 (At (record { 0 = 1 })) (0 ∷ 1 ∷ 2 ∷ []) Absent
-    ∷ looks printed 99 (At (record { 0 = 8 })) [] Absent
+    looks printed 25 (Some (record { 0 = 1 })) (0 ∷ 1 ∷ 2 ∷ []) (Ok Absent)
+    ∷ looks printed 99 (Some (record { 0 = 8 })) [] (Ok Absent)
     ∷ []
 
 -- the positions of a span
@@ -95,35 +96,35 @@ looks_hold = (record { guessed = refl; seen = refl; answered = refl }, (record {
 pub record InsertRun : Type 0 where
   pub store : Store
   pub keys : List ℕ
-  pub answers : List Inserted
+  pub answers : List (Result Inserted Refusal)
   pub left : Store
 
-abbrev pub inserts : Store → List ℕ → List Inserted → Store → InsertRun
+abbrev pub inserts : Store → List ℕ → List (Result Inserted Refusal) → Store → InsertRun
 inserts σ ks answers left = record { store = σ; keys = ks; answers = answers; left = left }
 
 -- P11 "insert 5: segment 0, slot 0; then insert 25: (5,0,4,25) (100,5,2,20), n=8"
 abbrev pub p11 : InsertRun
 p11 =
-    inserts printed (5 ∷ 25 ∷ []) (Buffered 0 0 ∷ Merged 0 1 8 2 ∷ [])
+    inserts printed (5 ∷ 25 ∷ []) (Ok (Buffered 0 0) ∷ Ok (Merged 0 1 8 2) ∷ [])
     (store_of (sizes_of 1 2 8 2) ((5 ∷ 10 ∷ 20 ∷ 25 ∷ 30 ∷ 100 ∷ 110 ∷ 120 ∷ []) ++ sevens 8) (entry 5 0 4 25 0 ++ (entry 100 5 2 20 0 ++ sevens 30)) (5 ∷ sevens 15))
 
 -- P12 "instead insert 31, then 99: (10,0,3,21) (99,4,0,1) (100,5,2,20)"
 abbrev pub p12 : InsertRun
 p12 =
-    inserts printed (31 ∷ 99 ∷ []) (Buffered 0 0 ∷ Merged 0 2 8 3 ∷ [])
+    inserts printed (31 ∷ 99 ∷ []) (Ok (Buffered 0 0) ∷ Ok (Merged 0 2 8 3) ∷ [])
     (store_of (sizes_of 1 2 8 3) ((10 ∷ 20 ∷ 30 ∷ 31 ∷ 99 ∷ 100 ∷ 110 ∷ 120 ∷ []) ++ sevens 8)
     (entry 10 0 3 21 0 ++ (entry 99 4 0 1 0 ++ (entry 100 5 2 20 0 ++ sevens 25))) (31 ∷ sevens 15))
 
 -- "with segment room 2 the second is refusal 7 and 31 stays buffered"
 abbrev pub p12_cramped : InsertRun
 p12_cramped =
-    inserts (printed_in 4) (31 ∷ 99 ∷ []) (Buffered 0 0 ∷ Refused SegmentRoom ∷ [])
+    inserts (printed_in 4) (31 ∷ 99 ∷ []) (Ok (Buffered 0 0) ∷ Err SegmentRoom ∷ [])
     (store_of (sizes_of 1 2 6 2) ((10 ∷ 20 ∷ 30 ∷ 100 ∷ 110 ∷ 120 ∷ []) ++ sevens 10) (entry 10 0 2 20 1 ++ (entry 100 3 2 20 0 ++ sevens 4)) (31 ∷ sevens 15))
 
 -- P12 with a key that waits in the segment behind, and moves with it: "a moved segment's old slots are not cleared"
 abbrev pub p12_moved : InsertRun
 p12_moved =
-    inserts printed (31 ∷ 115 ∷ 99 ∷ []) (Buffered 0 0 ∷ Buffered 1 0 ∷ Merged 0 2 8 3 ∷ [])
+    inserts printed (31 ∷ 115 ∷ 99 ∷ []) (Ok (Buffered 0 0) ∷ Ok (Buffered 1 0) ∷ Ok (Merged 0 2 8 3) ∷ [])
     (store_of (sizes_of 1 2 8 3) ((10 ∷ 20 ∷ 30 ∷ 31 ∷ 99 ∷ 100 ∷ 110 ∷ 120 ∷ []) ++ sevens 8)
     (entry 10 0 3 21 0 ++ (entry 99 4 0 1 0 ++ (entry 100 5 2 20 1 ++ sevens 25))) (31 ∷ 7 ∷ 115 ∷ 7 ∷ 115 ∷ sevens 11))
 
@@ -131,7 +132,7 @@ abbrev pub insert_runs : List InsertRun
 insert_runs = p11 ∷ p12 ∷ p12_cramped ∷ p12_moved ∷ []
 
 -- the answers, one after the other
-abbrev pub answers_of : Store → List ℕ → List Inserted
+abbrev pub answers_of : Store → List ℕ → List (Result Inserted Refusal)
 answers_of σ [] = []
 answers_of σ (k ∷ ks) = insert_of σ k ∷ answers_of (after_one σ k) ks
 

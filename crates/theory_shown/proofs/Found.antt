@@ -1,6 +1,7 @@
 -- Demand 2, "what is present, absent .. is what a plain sorted list .. says", and demand 3, "so every lookup over it is right": over an accepted
 -- store lookup finds exactly the keys that the store reads as, at a place that holds them.
 -- Assumes nothing.
+use Rattle.std.specs.Prelude.{Result, Ok, Err}
 use mathlib.Core.Path.{◌≡◌, refl, sym, ap, subst, ◌∙◌}
 use mathlib.Core.Logic.{⊎_elim}
 use Prim.Native.Nat.{ℕ, ◌+◌, ◌-◌, ◌*◌, ◌≤◌, ◌<◌}
@@ -18,7 +19,7 @@ use Rattle.table.specs.Entries.{entry_in, run_in, used_in}
 use Rattle.table.specs.Reads.{merged_in, reads}
 use Rattle.line.specs.Meaning.{Near}
 use Rattle.answers.specs.declared.Looked.{Looked}
-use Rattle.answers.specs.declared.Looked.TheVariants.{Absent, Refused}
+use Rattle.answers.specs.declared.Looked.TheVariants.{Absent}
 use Rattle.lookup.specs.Lookup.{lookup_of}
 use Rattle.lookup_laws.specs.Answers.{Stands, Waits, Missing, Answers, in_run, in_buffer, absent, refused_1, refused_2, refused_9}
 use Rattle.lookup_laws.proofs.Meaning.{slot_at, answers}
@@ -30,7 +31,7 @@ use Rattle.theory_shown.specs.Found.{Finds, Holds}
 use Rattle.theory_shown.proofs.Views.{length_run, length_used}
 
 -- On any store, the place that lookup names holds the key.
-answer_holds : (σ : Store) (k : ℕ) {a : Looked} → Answers σ k a → Finds a → Holds σ k a
+answer_holds : (σ : Store) (k : ℕ) {a : Result Looked Refusal} → Answers σ k a → Finds a → Holds σ k a
 answer_holds σ k (in_run {p} w) f = record { inside = omega (arith, w.here.near, w.taken.sound); is = w.here.is }
 answer_holds σ k (in_buffer {i} {j} w) f = record { segment = w.taken.asked.chosen.inside; used = w.lowest.below; is = w.lowest.holds }
 answer_holds σ k (absent w) f = absurd f
@@ -73,7 +74,7 @@ module _ (σ : Store) (ok : Accepted σ) (k : ℕ) where
         other w.place (omega arith) l (sym (slot_at σ k i w.place l) ∙ w.is)
 
   -- an answer that names a place is of a key that is read
-  pub answer_read : {a : Looked} → Answers σ k a → Finds a → In k (reads σ)
+  pub answer_read : {a : Result Looked Refusal} → Answers σ k a → Finds a → In k (reads σ)
   answer_read (in_run {p} w) f =
       where_read σ ok k w.segment w.taken.asked.chosen
       (run_in_lem w.segment w.taken.asked.chosen.inside p w.here.near.from_base w.here.near.before_end w.here.is)
@@ -93,7 +94,7 @@ module _ (σ : Store) (ok : Accepted σ) (k : ℕ) where
   read_key : In k (reads σ) → IsKey k
   read_key r = rising_key k (reads σ) (reads_rise σ ok) r
 
-  answer_finds : {a : Looked} → Answers σ k a → In k (reads σ) → Finds a
+  answer_finds : {a : Result Looked Refusal} → Answers σ k a → In k (reads σ) → Finds a
   answer_finds (in_run w) r = tt
   answer_finds (in_buffer w) r = tt
   answer_finds (absent w) r = missing_unread w r
@@ -112,10 +113,10 @@ module _ (σ : Store) (ok : Accepted σ) (k : ℕ) where
   pub read_held : In k (reads σ) → Holds σ k (lookup_of σ k)
   read_held r = found_holds σ k (read_found r)
 
-  pub absent_unread : lookup_of σ k ≡ Absent → In k (reads σ) → ⊥
+  pub absent_unread : lookup_of σ k ≡ Ok Absent → In k (reads σ) → ⊥
   absent_unread e r = subst Finds e (read_found r)
 
-  answer_absent : {a : Looked} → Answers σ k a → IsKey k → (In k (reads σ) → ⊥) → a ≡ Absent
+  answer_absent : {a : Result Looked Refusal} → Answers σ k a → IsKey k → (In k (reads σ) → ⊥) → a ≡ Ok Absent
   answer_absent (in_run w) small other = absurd (other (answer_read (in_run w) tt))
   answer_absent (in_buffer w) small other = absurd (other (answer_read (in_buffer w) tt))
   answer_absent (absent w) small other = refl
@@ -124,10 +125,10 @@ module _ (σ : Store) (ok : Accepted σ) (k : ℕ) where
   answer_absent (refused_9 {i} a d) small other = absurd (d (ok.rules i a.chosen.inside).sound)
 
   -- Of any other key it says that it is absent.
-  pub unread_absent : IsKey k → (In k (reads σ) → ⊥) → lookup_of σ k ≡ Absent
+  pub unread_absent : IsKey k → (In k (reads σ) → ⊥) → lookup_of σ k ≡ Ok Absent
   unread_absent small other = answer_absent (answers σ k) small other
 
-  answer_stands : {a : Looked} {r : Refusal} → Answers σ k a → IsKey k → a ≡ Refused r → ⊥
+  answer_stands : {a : Result Looked Refusal} {r : Refusal} → Answers σ k a → IsKey k → a ≡ Err r → ⊥
   answer_stands (in_run w) small e = absurd (let z : ◌≡◌ {A = ℕ} 0 1 = cc in omega arith)
   answer_stands (in_buffer w) small e = absurd (let z : ◌≡◌ {A = ℕ} 0 1 = cc in omega arith)
   answer_stands (absent w) small e = absurd (let z : ◌≡◌ {A = ℕ} 0 1 = cc in omega arith)
@@ -136,5 +137,5 @@ module _ (σ : Store) (ok : Accepted σ) (k : ℕ) where
   answer_stands (refused_9 {i} a d) small e = d (ok.rules i a.chosen.inside).sound
 
   -- It refuses no key.
-  pub never_refused : (r : Refusal) → IsKey k → lookup_of σ k ≡ Refused r → ⊥
+  pub never_refused : (r : Refusal) → IsKey k → lookup_of σ k ≡ Err r → ⊥
   never_refused r small e = answer_stands (answers σ k) small e
