@@ -5,7 +5,7 @@ use mathlib.Core.Path.{◌≡◌, refl, sym, ap, ◌∙◌, subst}
 use mathlib.Core.List.{List, [], ◌∷◌, ◌++◌}
 use Prim.Native.Nat.{ℕ, zero, suc, ◌+◌, ◌-◌, ◌*◌, ◌≤◌, ◌<◌}
 use native.Mathlib.Nat.{mul-le-mul, mul-le-mul_right, lt_of_le_of_lt, add-mul, one-mul}
-use native.Mathlib.Numerals.{add-one, towards_suc}
+use native.Mathlib.Numerals.{add-one}
 use native.Mathlib.Omega.{arith}
 use lib.Dec.{lit<}
 use lib.ListN.{length, get_or, set, length-append}
@@ -13,7 +13,7 @@ use mir.Syntax.{w64}
 use mir.Val.{Fits}
 use Rattle.terms.specs.declared.Sizes.{Sizes}
 use Rattle.terms.specs.Limits.{b_most, s_most}
-use Rattle.lists.specs.Over.{over, Space, Writing}
+use Rattle.lists.specs.Over.{over, Writing}
 use Rattle.lists.proofs.Over.{set_over, writing_start, writing_step, writing_end, length_over}
 use Rattle.image_little.specs.Little.{get_at}
 use Rattle.image_records.specs.Records.{shape, many_at, fields_at, record_at, kind_of, after_of, total}
@@ -25,7 +25,7 @@ use Rattle.image_records.proofs.Images.{then_past, part_after}
 use Rattle.image_records.proofs.Filled.{firsts_length}
 use Rattle.image_records.proofs.First.{first_proper}
 use Rattle.image_records.proofs.Inside.{part_few, part_inside}
-use Rattle.image_fill.specs.Filling.{KeysFill, RowFill, PieceFill, PiecesFill, Filling, ImageFill}
+use Rattle.image_fill.specs.Filling.{KeysFill, PieceFill, PiecesFill, Filling, ImageFill}
 
 -- ---- the records, as the code steps along them
 
@@ -46,16 +46,21 @@ keys_suc : (l : List ℕ) (count p : ℕ) → keys_at l (suc count) p ≡ (get_a
 unfolding firsts many_at fields_at total
 keys_suc l count p = rw add-one
 
-keys_more : (l : List ℕ) (left p : ℕ) → 0 < left → keys_at l left p ≡ (get_at l (p + 1) 6 ∷ []) ++ keys_at l (left - 1) (p + 7)
-keys_more l left p h = let e : left ≡ suc (left - 1) = omega arith in ap (λ (k : ℕ). keys_at l k p) e ∙ keys_suc l (left - 1) p
+keys_more : (l : List ℕ) (count at k : ℕ) → k < count
+    → keys_at l (count - k) (at + 7 * k) ≡ (get_at l (at + 7 * k + 1) 6 ∷ []) ++ keys_at l (count - (k + 1)) (at + 7 * (k + 1))
+keys_more l count at k h =
+    let e : count - k ≡ suc (count - (k + 1)) = omega arith in
+    let f : at + 7 * k + 7 ≡ at + 7 * (k + 1) = omega arith in
+    ap (λ (m : ℕ). keys_at l m (at + 7 * k)) e ∙ keys_suc l (count - (k + 1)) (at + 7 * k)
+    ∙ ap (λ (p : ℕ). (get_at l (at + 7 * k + 1) 6 ∷ []) ++ keys_at l (count - (k + 1)) p) f
 
-keys_none : (l : List ℕ) (left p : ℕ) → left ≤ 0 → keys_at l left p ≡ []
+keys_none : (l : List ℕ) (left p : ℕ) → left ≡ 0 → keys_at l left p ≡ []
 unfolding firsts many_at
-keys_none l left p h = let e : left ≡ 0 = omega arith in rw e
+keys_none l left p e = rw e
 
 -- a segment: its numbers, the place after it, its keys
 module _ (l : List ℕ) (at : ℕ) where
-  row_is : record_at first.segment l at ≡
+  pub row_is : record_at first.segment l at ≡
       get_at l (at + 1) 6 ∷ (get_at l (at + 7) 2 ∷ (get_at l (at + 9) 2 ∷ (get_at l (at + 11) 6 ∷ (get_at l (at + 17) 1 ∷ []))))
   unfolding fields_at
   row_is =
@@ -66,76 +71,52 @@ module _ (l : List ℕ) (at : ℕ) where
       let e₁ : suc at ≡ at + 1 = omega arith in
       rw (e₅, e₄, e₃, e₂, e₁)
 
-  next_is : after_part first l at ≡ at + 18 + 7 * held_at (layout_of first) l at
+  pub next_is : after_part first l at ≡ at + 18 + 7 * held_at (layout_of first) l at
   unfolding total
   next_is = after_is 4 (held_at (layout_of first) l at) (at + 18)
 
-  slots_is : firsts (part_at first l at).held ≡ keys_at l (held_at (layout_of first) l at) (at + 18)
+  pub slots_is : firsts (part_at first l at).held ≡ keys_at l (held_at (layout_of first) l at) (at + 18)
   unfolding total
   slots_is = refl
 
 -- ---- fill_keys
+
+-- the loop: the keys of k records are put
+abbrev pub Keying : List ℕ → ℕ → List ℕ → ℕ → ℕ → List ℕ → ℕ → Type 0
+Keying l at c₀ to count c k = Writing c₀ to (keys_at l count at) c (to + k) (keys_at l (count - k) (at + 7 * k))
+
 module _ (l : List ℕ) (at : ℕ) (c₀ : List ℕ) (to count : ℕ) where
-  pub fill_start : KeysFill l at c₀ to count → Writing c₀ to (keys_at l count at) c₀ to (keys_at l count at)
-  fill_start r = writing_start c₀ to (keys_at l count at) (omega (arith, keys_length l count at, r.room))
+  pub fill_start : KeysFill l at c₀ to count → Keying l at c₀ to count c₀ 0
+  fill_start r =
+      let e : to + 0 ≡ to = omega arith in
+      let f : at + 7 * 0 ≡ at = omega arith in
+      let g : count - 0 ≡ count = omega arith in
+      rw (e, f, g) (writing_start c₀ to (keys_at l count at) (omega (arith, keys_length l count at, r.room)))
 
-  module _ (c : List ℕ) (p i left : ℕ) (w : Writing c₀ to (keys_at l count at) c i (keys_at l left p)) where
-    pub fill_turn : 0 < left → {x : ℕ} → x ≡ get_at l (p + 1) 6 → Writing c₀ to (keys_at l count at) (set c i x) (i + 1) (keys_at l (left - 1) (p + 7))
+  module _ (c : List ℕ) (k : ℕ) (w : Keying l at c₀ to count c k) where
+    pub fill_turn : k < count → {x : ℕ} → x ≡ get_at l (at + 7 * k + 1) 6 → Keying l at c₀ to count (set c (to + k) x) (k + 1)
     fill_turn h {x} e =
-        writing_step c₀ to (keys_at l count at) c i (get_at l (p + 1) 6 ∷ []) (keys_at l (left - 1) (p + 7)) (rw (keys_more l left p h) at w) (set c i x)
-        (set_over c i x ∙ ap (λ (y : ℕ). over c i (y ∷ [])) e) (i + 1) refl
+        writing_step c₀ to (keys_at l count at) c (to + k) (get_at l (at + 7 * k + 1) 6 ∷ []) (keys_at l (count - (k + 1)) (at + 7 * (k + 1)))
+        (rw (keys_more l count at k h) at w) (set c (to + k) x) (set_over c (to + k) x ∙ ap (λ (y : ℕ). over c (to + k) (y ∷ [])) e) (to + (k + 1)) (omega arith)
 
-    pub fill_end : left ≤ 0 → c ≡ over c₀ to (keys_at l count at)
-    fill_end h = writing_end c₀ to (keys_at l count at) c i (rw (keys_none l left p h) at w)
+    pub fill_write : k < count → to + k < length c
+    fill_write h = omega (arith, w.same, w.room, keys_length l (count - k) (at + 7 * k))
 
-    pub fill_write : 0 < left → i < length c
-    fill_write h = omega (arith, w.same, w.room, keys_length l left p)
+  pub fill_end : (c : List ℕ) → Keying l at c₀ to count c count → c ≡ over c₀ to (keys_at l count at)
+  fill_end c w = writing_end c₀ to (keys_at l count at) c (to + count) (rw (keys_none l (count - count) (at + 7 * count) (omega arith)) at w)
 
-pub ruleset fill_cases = (fill_start, fill_turn, fill_end, fill_write)
-
--- ---- put_five
-pub five_written : (t : List ℕ) (at a b c d e : ℕ) → set (set (set (set (set t at a) (at + 1) b) (at + 2) c) (at + 3) d) (at + 4) e ≡ over t at (a ∷ (b ∷ (c ∷ (d ∷ (e ∷ [])))))
-unfolding over
-five_written t at a b c d e = simp towards_suc
-
-pub ruleset five_cases = (five_written)
-
--- ---- fill_row
-pub row_filled : (l : List ℕ) (at : ℕ) (t : List ℕ) (i : ℕ) {a b c d e : ℕ} → a ≡ get_at l (at + 1) 6 → b ≡ get_at l (at + 7) 2 → c ≡ get_at l (at + 9) 2 → d ≡ get_at l (at + 11) 6
-    → e ≡ get_at l (at + 17) 1 → {t' : List ℕ} → t' ≡ over t (5 * i) (a ∷ (b ∷ (c ∷ (d ∷ (e ∷ []))))) → t' ≡ over t (5 * i) (record_at first.segment l at)
-row_filled l at t i p q r s u g = g ∙ rw (p, q, r, s, u) (ap (over t (5 * i)) (sym (row_is l at)))
-
-pub ruleset row_cases = (row_filled)
-
--- ---- held_in
-pub held_read : (l : List ℕ) (at : ℕ) {x r : ℕ} → x ≡ get_at l (at + 17) 1 → r ≡ x → r ≡ held_at (layout_of first) l at
-unfolding held_at
-held_read l at e f = f ∙ e
-
-pub ruleset held_cases = (held_read)
+pub ruleset fill_cases = (fill_end, fill_write)
 
 -- ---- fill_piece
 pub slots_fit : (i b : ℕ) → i < s_most → b ≤ b_most → Fits w64 (i * b)
 slots_fit i b h g = let k : i ≤ s_most = omega arith in record { fits = lt_of_le_of_lt (mul-le-mul k g) (lit< tt) }
 
 module _ (l : List ℕ) (at b : ℕ) (t buffers : List ℕ) (i : ℕ) where
-  pub held_asks : PieceFill l at b t buffers i → Space l at 18
-  held_asks r = record { inside = r.stands }
-
-  pub row_asks : PieceFill l at b t buffers i → RowFill l at t i
-  row_asks r = record { inside = r.stands; row = r.row; few = r.few }
-
   module _ {h : ℕ} (held : h ≡ held_at (layout_of first) l at) where
     pub keys_asks : PieceFill l at b t buffers i → KeysFill l (at + 18) buffers (i * b) h
     keys_asks r = rw held (record { records = rw (next_is l at) at r.inside; room = r.slots })
 
-    pub piece_place : {q : ℕ} → q ≡ at + 18 + 7 * h → q ≡ after_part first l at
-    piece_place g = g ∙ rw held (sym (next_is l at))
-
-    pub piece_filled : {c : List ℕ} → c ≡ over buffers (i * b) (keys_at l h (at + 18)) → c ≡ over buffers (i * b) (firsts (part_at first l at).held)
-    piece_filled g = g ∙ rw held (ap (over buffers (i * b)) (sym (slots_is l at)))
-
-pub ruleset piece_cases = (slots_fit, held_asks, row_asks, keys_asks, piece_place, piece_filled)
+pub ruleset piece_cases = (slots_fit, next_is, slots_is, keys_asks)
 
 -- ---- fill_pieces
 row_length : (l : List ℕ) (at : ℕ) → length (record_at first.segment l at) ≡ 5
@@ -185,28 +166,30 @@ module _ (l : List ℕ) (at b : ℕ) (t₀ bs₀ : List ℕ) (s : ℕ) where
   abbrev rows : List ℕ
   rows = rows_of (parts_at first l s at)
 
-  pub filling_start : PiecesFill l at b t₀ bs₀ s → Filling l at b t₀ bs₀ s t₀ bs₀ at 0 s
+  pub filling_start : PiecesFill l at b t₀ bs₀ s → Filling l at b t₀ bs₀ s t₀ bs₀ at 0 (s - 0)
   filling_start r =
-      record {
+      let e : s - 0 ≡ s = omega arith in
+      rw e
+      (record {
         rows = writing_start t₀ 0 rows (omega (arith, rows_length l s at, r.rows));
         slots = refl;
         same = refl;
         counts = omega arith;
         last = r.last;
         judged = r.judged;
-      }
+      })
 
-  module _ (t bs : List ℕ) (p i left : ℕ) (w : Filling l at b t₀ bs₀ s t bs p i left) where
-    module _ (h : 0 < left) where
-      one : left ≡ suc (left - 1)
+  module _ (t bs : List ℕ) (p i : ℕ) (w : Filling l at b t₀ bs₀ s t bs p i (s - i)) where
+    module _ (h : i < s) where
+      one : s - i ≡ suc (s - (i + 1))
       one = omega arith
 
-      here : Stood l b p (left - 1) w.last
-      here = stood l b p (left - 1) w.last (subst (λ (k : ℕ). parts_of (layout_of first) b l k p ≡ Ok w.last) one w.judged)
+      here : Stood l b p (s - (i + 1)) w.last
+      here = stood l b p (s - (i + 1)) w.last (subst (λ (k : ℕ). parts_of (layout_of first) b l k p ≡ Ok w.last) one w.judged)
 
       pub piece_asks : PiecesFill l at b t₀ bs₀ s → PieceFill l p b t bs i
       piece_asks r =
-          let c : i + 1 ≤ s = omega (arith, w.counts) in
+          let c : i + 1 ≤ s = omega arith in
           let m : (i + 1) * b ≤ s * b = mul-le-mul_right b c in
           let n : (i + 1) * b ≡ i * b + b = add-mul i 1 b ∙ rw one-mul in
           record {
@@ -219,24 +202,24 @@ module _ (l : List ℕ) (at b : ℕ) (t₀ bs₀ : List ℕ) (s : ℕ) where
           }
 
       pub filling_turn : {t' bs' : List ℕ} {q : ℕ} → q ≡ after_part first l p → t' ≡ over t (5 * i) (record_at first.segment l p)
-          → bs' ≡ over bs (i * b) (firsts (part_at first l p).held) → Filling l at b t₀ bs₀ s t' bs' q (i + 1) (left - 1)
+          → bs' ≡ over bs (i * b) (firsts (part_at first l p).held) → Filling l at b t₀ bs₀ s t' bs' q (i + 1) (s - (i + 1))
       filling_turn {t'} {bs'} {q} e f g =
           let row : List ℕ = record_at first.segment l p in
-          let more : List ℕ = rows_of (parts_at first l (left - 1) (after_part first l p)) in
+          let more : List ℕ = rows_of (parts_at first l (s - (i + 1)) (after_part first l p)) in
           let now : Writing t₀ 0 rows t (5 * i) (row ++ more) =
-          subst (λ (x : List ℕ). Writing t₀ 0 rows t (5 * i) x) (ap (λ (k : ℕ). rows_of (parts_at first l k p)) one ∙ rows_suc l b p (left - 1)) w.rows in
+          subst (λ (x : List ℕ). Writing t₀ 0 rows t (5 * i) x) (ap (λ (k : ℕ). rows_of (parts_at first l k p)) one ∙ rows_suc l b p (s - (i + 1))) w.rows in
           rw e
           (record {
             rows = writing_step t₀ 0 rows t (5 * i) row more now t' f (5 * (i + 1)) (omega (arith, row_length l p));
-            slots = rw g (sym (slots_suc l b p (left - 1) i bs) ∙ ap (λ (k : ℕ). slots_by b (parts_at first l k p) i bs) (sym one) ∙ w.slots);
+            slots = rw g (sym (slots_suc l b p (s - (i + 1)) i bs) ∙ ap (λ (k : ℕ). slots_by b (parts_at first l k p) i bs) (sym one) ∙ w.slots);
             same = ap length g ∙ length_over bs (i * b) (firsts (part_at first l p).held) ∙ w.same;
-            counts = omega (arith, w.counts);
+            counts = omega arith;
             last = w.last;
             judged = here.rest;
           })
 
-    module _ (h : left ≤ 0) where
-      none : left ≡ 0
+    module _ (h : s ≤ i) where
+      none : s - i ≡ 0
       none = omega arith
 
       pub filling_rows : t ≡ over t₀ 0 rows
@@ -246,14 +229,6 @@ module _ (l : List ℕ) (at b : ℕ) (t₀ bs₀ : List ℕ) (s : ℕ) where
 
       pub filling_slots : bs ≡ slots_by b (parts_at first l s at) 0 bs₀
       filling_slots = sym (slots_none l b p i bs) ∙ ap (λ (k : ℕ). slots_by b (parts_at first l k p) i bs) (sym none) ∙ w.slots
-
-    pub filling_same : length bs ≡ length bs₀
-    filling_same = w.same
-
-    pub filling_same_rows : length t ≡ length t₀
-    filling_same_rows = w.rows.same
-
-pub ruleset filling_cases = (filling_start, piece_asks, filling_turn, filling_rows, filling_slots, filling_same, filling_same_rows)
 
 -- ---- fill
 module _ (l : List ℕ) (z : Sizes) (keys t bs : List ℕ) (r : ImageFill l z keys t bs) where
@@ -295,4 +270,4 @@ module _ (l : List ℕ) (z : Sizes) (keys t bs : List ℕ) (r : ImageFill l z ke
     pub slots_filled : {c : List ℕ} → c ≡ slots_by z.b (parts_at first l z.s p) 0 bs → c ≡ slots_by z.b (image_at first l).parts 0 bs
     slots_filled g = g ∙ rw parts_is
 
-pub ruleset image_cases = (run_asks, run_filled, pieces_asks, table_filled, slots_filled)
+pub ruleset image_cases = (run_asks, pieces_asks)

@@ -1,7 +1,7 @@
 // The filling pass of reading, first edition: exactly the used cells are set. It runs after the judging pass, so it tests nothing.
 #![tactic(auto)]
 
-ghost use Rattle.std.specs.Prelude.{◌≡◌, ◌+◌, ◌*◌, [], ◌∷◌};
+ghost use Rattle.std.specs.Prelude.{◌≡◌, ◌+◌, ◌*◌};
 ghost use Rattle.lists.specs.Over.{over, Space};
 ghost use Rattle.image_records.specs.Records.{many_at, record_at};
 ghost use Rattle.image_records.specs.Images.{layout_of, held_at, part_at, after_part, parts_at, image_at};
@@ -9,52 +9,40 @@ ghost use Rattle.image_records.specs.First.{first};
 ghost use Rattle.image_records.specs.Stores.{firsts, rows_of, slots_by};
 ghost use Rattle.image_fill.specs.Filling.{KeysFill, RowFill, PieceFill, PiecesFill, ImageFill};
 
+use image_records::Fields;
 use terms::Sizes;
 
 // The keys of `count` records, of either kind of key, from byte `at` on, put over the cells from `to` on; and the place after the records.
+#[tactic(auto, using(crate::proofs::Laws::fill_cases))]
 fn fill_keys(bytes: &[u8], at: usize, cells: &mut [u64], to: usize, count: usize) -> usize
     requires { KeysFill bytes.now at cells.old to count }
     ensures place { result ≡ at + 7 * count }
     ensures cells { cells.new ≡ over cells.old to (firsts (many_at first.key.widths bytes.now count at)) }
 {
-    let mut p = at;
-    let mut i = to;
-    let mut left = count;
-    while 0 < left {
-        cells[i] = image_little::get(bytes, p + 1, 6);
-        p += 7;
-        i += 1;
-        left -= 1;
+    for k in 0..count {
+        cells[to + k] = image_little::get(bytes, at + 7 * k + 1, 6);
     }
-    p
-}
-
-// Five cells of the table.
-fn put_five(table: &mut [u64], at: usize, first: u64, base: u64, rise: u64, run: u64, held: u64)
-    requires { Space table.old at 5 }
-    ensures { table.new ≡ over table.old at (first ∷ (base ∷ (rise ∷ (run ∷ (held ∷ []))))) }
-{
-    table[at] = first;
-    table[at + 1] = base;
-    table[at + 2] = rise;
-    table[at + 3] = run;
-    table[at + 4] = held;
+    at + 7 * count
 }
 
 // Segment i's five numbers.
+#[tactic(auto, using(crate::proofs::Laws::row_is))]
 fn fill_row(bytes: &[u8], at: usize, table: &mut [u64], i: usize)
     requires { RowFill bytes.now at table.old i }
     ensures { table.new ≡ over table.old (5 * i) (record_at first.segment bytes.now at) }
 {
-    let first = image_little::get(bytes, at + 1, 6);
-    let base = image_little::get(bytes, at + 7, 2);
-    let rise = image_little::get(bytes, at + 9, 2);
-    let run = image_little::get(bytes, at + 11, 6);
-    let held = image_little::get(bytes, at + 17, 1);
-    put_five(table, 5 * i, first, base, rise, run, held);
+    let row = Fields {
+        first: image_little::get(bytes, at + 1, 6),
+        base: image_little::get(bytes, at + 7, 2),
+        rise: image_little::get(bytes, at + 9, 2),
+        run: image_little::get(bytes, at + 11, 6),
+        held: image_little::get(bytes, at + 17, 1),
+    };
+    row.put(table, i);
 }
 
 // How many buffered keys the segment there says it holds.
+#[tactic(auto, unfolding(image_records::specs::Images::held_at))]
 fn held_in(bytes: &[u8], at: usize) -> usize
     requires { Space bytes.now at 18 }
     ensures { result ≡ held_at (layout_of first) bytes.now at }
@@ -63,6 +51,7 @@ fn held_in(bytes: &[u8], at: usize) -> usize
 }
 
 // Segment i: its row and its used slots.
+#[tactic(auto, using(crate::proofs::Laws::piece_cases))]
 fn fill_piece(
     bytes: &[u8],
     at: usize,
@@ -88,16 +77,13 @@ fn fill_pieces(bytes: &[u8], at: usize, b: usize, table: &mut [u64], buffers: &m
     ensures buffers { buffers.new ≡ slots_by b (parts_at first bytes.now s at) 0 buffers.old }
 {
     let mut p = at;
-    let mut i = 0;
-    let mut left = s;
-    while 0 < left {
+    for i in 0..s {
         p = fill_piece(bytes, p, b, table, buffers, i);
-        i += 1;
-        left -= 1;
     }
 }
 
 // The whole: the keys, then the segments.
+#[tactic(auto, using(crate::proofs::Laws::image_cases))]
 pub fn fill(bytes: &[u8], z: Sizes, keys: &mut [u64], table: &mut [u64], buffers: &mut [u64])
     requires { ImageFill bytes.now z keys.old table.old buffers.old }
     ensures keys { keys.new ≡ over keys.old 0 (firsts (image_at first bytes.now).keys) }

@@ -6,7 +6,8 @@ use Prim.Native.Nat.{ℕ, zero, suc, ◌+◌, ◌-◌, ◌*◌, ◌≤◌, ◌<�
 use native.Mathlib.Nat.{mul-le-mul, lt_of_le_of_lt}
 use native.Mathlib.Omega.{arith}
 use lib.Dec.{lit<}
-use lib.ListN.{length, get_or, set, length-set, length-append}
+use lib.ListN.{length, get_or, set, take, drop, length-append, length-drop}
+use Rattle.std.proofs.lemmas.List.{get_or-take, get_or-drop, length-take-le}
 use mir.Syntax.{w64}
 use mir.Val.{Fits}
 use Rattle.terms.specs.declared.Sizes.{Sizes}
@@ -17,10 +18,12 @@ use Rattle.table.specs.Store.{Store, store_of}
 use Rattle.image_records.specs.Records.{field_bytes, record_bytes, many_bytes}
 use Rattle.image_records.specs.Images.{part_bytes, image_bytes}
 use Rattle.image_records.specs.First.{first}
+use Rattle.image_records.specs.declared.Fields.{Fields}
+use Rattle.image_records.specs.Fields.{fields_of}
 use Rattle.image_records.specs.Stores.{singles_in, row_in, parts_in, image_in}
 use Rattle.lists.specs.Over.{over, Space, Writing}
 use Rattle.lists.proofs.Over.{length_over, over_append, writing_start, writing_step, writing_end, writing_place}
-use Rattle.image_put.specs.Pieces.{byte_bytes, pair_bytes, line_bytes, key_bytes, keys_bytes, head_bytes, segment_bytes, row_bytes, piece_bytes, pieces_bytes, end_bytes, rest_bytes, KeysRoom, RowRoom, PieceRoom, PiecesRoom, RestRoom, ImageRoom}
+use Rattle.image_put.specs.Pieces.{byte_bytes, pair_bytes, line_bytes, key_bytes, keys_bytes, head_bytes, segment_bytes, row_bytes, piece_bytes, pieces_bytes, end_bytes, rest_bytes, KeysRoom, PieceRoom, PiecesRoom, RestRoom, ImageRoom}
 
 -- ---- lengths
 pub key_length : (kind x : ℕ) → length (key_bytes kind x) ≡ 7
@@ -40,11 +43,9 @@ unfolding end_bytes record_bytes field_bytes
 end_length = refl
 
 -- ---- one record: a byte, then numbers
-pub byte_written : (l : List ℕ) (at x : ℕ) → set l at x ≡ over l at (byte_bytes x)
+byte_written : (l : List ℕ) (at x : ℕ) → set l at x ≡ over l at (byte_bytes x)
 unfolding over byte_bytes
 byte_written l at x = refl
-
-pub ruleset byte_cases = (byte_written, length-set)
 
 -- a piece after a piece
 joined : (l₀ : List ℕ) (at : ℕ) (xs : List ℕ) {l l' : List ℕ} → l ≡ over l₀ at xs → (p : ℕ) (ys : List ℕ) → l' ≡ over l p ys → p ≡ at + length xs → l' ≡ over l₀ at (xs ++ ys)
@@ -54,9 +55,9 @@ module _ (l : List ℕ) (at kind x : ℕ) where
   pub key_place : at + 7 ≡ at + length (key_bytes kind x)
   key_place = rw (key_length kind x)
 
-  pub key_written : {l₁ l₂ : List ℕ} → l₁ ≡ over l at (byte_bytes kind) → l₂ ≡ over l₁ (at + 1) (number_bytes 6 x) → l₂ ≡ over l at (key_bytes kind x)
+  pub key_written : {l₁ : List ℕ} → l₁ ≡ over (set l at kind) (at + 1) (number_bytes 6 x) → l₁ ≡ over l at (key_bytes kind x)
   unfolding byte_bytes key_bytes record_bytes field_bytes
-  key_written e f = simp append-nil (joined l at (kind ∷ []) e (at + 1) (number_bytes 6 x) f refl)
+  key_written f = simp append-nil (joined l at (kind ∷ []) (byte_written l at kind) (at + 1) (number_bytes 6 x) f refl)
 
 pub ruleset key_cases = (key_place, key_written)
 
@@ -89,11 +90,11 @@ module _ (l : List ℕ) (e b n s : ℕ) where
   pub head_place : 9 ≡ 0 + length (head_bytes e b n s)
   head_place = rw (head_length e b n s)
 
-  pub head_written : {e' b' n' s' : ℕ} → e' ≡ e → b' ≡ b → n' ≡ n → s' ≡ s → {l₁ l₂ l₃ : List ℕ} → l₁ ≡ over l 0 (byte_bytes 1) → l₂ ≡ over l₁ 1 (pair_bytes e' b')
-      → l₃ ≡ over l₂ 5 (pair_bytes n' s') → l₃ ≡ over l 0 (head_bytes e b n s)
-  head_written qe qb qn qs f₁ f₂ f₃ =
-      let g₂ : _ = joined l 0 (byte_bytes 1) f₁ 1 (pair_bytes e b) (f₂ ∙ rw (qe, qb)) (rw (byte_length 1)) in
-      joined l 0 _ g₂ 5 (pair_bytes n s) (f₃ ∙ rw (qn, qs)) (simp (length-append, byte_length, pair_length)) ∙ ap (over l 0) (head_is e b n s)
+  pub head_written : {l₁ l₂ : List ℕ} → l₁ ≡ over (set l 0 1) 1 (pair_bytes e b)
+      → l₂ ≡ over l₁ 5 (pair_bytes n s) → l₂ ≡ over l 0 (head_bytes e b n s)
+  head_written f g =
+      let h : _ = joined l 0 (byte_bytes 1) (byte_written l 0 1) 1 (pair_bytes e b) f (rw (byte_length 1)) in
+      joined l 0 _ h 5 (pair_bytes n s) g (simp (length-append, byte_length, pair_length)) ∙ ap (over l 0) (head_is e b n s)
 
 pub ruleset head_cases = (head_place, head_written)
 
@@ -120,9 +121,9 @@ module _ (l : List ℕ) (at : ℕ) where
   pub end_place : at + 1 ≡ at + length end_bytes
   end_place = rw end_length
 
-  pub end_written : {l₁ : List ℕ} → l₁ ≡ over l at (byte_bytes 9) → l₁ ≡ over l at end_bytes
+  pub end_written : set l at 9 ≡ over l at end_bytes
   unfolding byte_bytes end_bytes record_bytes field_bytes
-  end_written e = e
+  end_written = byte_written l at 9
 
 pub ruleset end_cases = (end_place, end_written)
 
@@ -141,36 +142,69 @@ keys_length kind cells from (suc count) =
     ap length (keys_more kind cells from count) ∙ length-append (key_bytes kind (get_or cells from 0)) (keys_bytes kind cells (from + 1) count) ∙
     omega (arith, key_length kind (get_or cells from 0), keys_length kind cells (from + 1) count)
 
-module _ (l₀ : List ℕ) (at kind : ℕ) (cells : List ℕ) (from count : ℕ) where
-  pub keys_start : KeysRoom l₀ at kind cells from count → Writing l₀ at (keys_bytes kind cells from count) l₀ at (keys_bytes kind cells from count)
-  keys_start r = writing_start l₀ at (keys_bytes kind cells from count) r.space
+-- a part of the cells, as a row of its own
+abbrev pub part : List ℕ → ℕ → ℕ → List ℕ
+part cells from count = take ((from + count) - from) (drop from cells)
 
-  module _ (l : List ℕ) (p i left : ℕ) (w : Writing l₀ at (keys_bytes kind cells from count) l p (keys_bytes kind cells i left)) where
-    pub keys_space : 0 < left → Space l p 7
-    keys_space h =
-        let e : left ≡ suc (left - 1) = omega arith in
-        let f : length (keys_bytes kind cells i left) ≡ 7 + length (keys_bytes kind cells (i + 1) (left - 1)) =
-        ap (λ (k : ℕ). length (keys_bytes kind cells i k)) e ∙ ap length (keys_more kind cells i (left - 1)) ∙
-        length-append (key_bytes kind (get_or cells i 0)) (keys_bytes kind cells (i + 1) (left - 1)) ∙ rw (key_length kind (get_or cells i 0)) in
-        record { inside = omega (arith, w.room, w.same) }
+module _ (kind : ℕ) (cells : List ℕ) (from count : ℕ) (r : from + count ≤ length cells) where
+  abbrev these : List ℕ
+  these = part cells from count
 
-    pub keys_turn : 0 < left → {l' : List ℕ} {q : ℕ} → l' ≡ over l p (key_bytes kind (get_or cells i 0)) → q ≡ p + length (key_bytes kind (get_or cells i 0))
-        → Writing l₀ at (keys_bytes kind cells from count) l' q (keys_bytes kind cells (i + 1) (left - 1))
-    keys_turn h {l'} {q} f g =
-        let e : left ≡ suc (left - 1) = omega arith in
-        let m : keys_bytes kind cells i left ≡ key_bytes kind (get_or cells i 0) ++ keys_bytes kind cells (i + 1) (left - 1) =
-        ap (keys_bytes kind cells i) e ∙ keys_more kind cells i (left - 1) in
-        writing_step l₀ at (keys_bytes kind cells from count) l p (key_bytes kind (get_or cells i 0)) (keys_bytes kind cells (i + 1) (left - 1)) (rw m at w) l' f q g
+  part_keys : (j m : ℕ) → j + m ≤ count → keys_bytes kind these j m ≡ keys_bytes kind cells (from + j) m
+  part_keys j zero h = keys_none kind these j ∙ sym (keys_none kind cells (from + j))
+  part_keys j (suc m) h =
+      let k : j < (from + count) - from = omega arith in
+      let item : get_or these j 0 ≡ get_or cells (from + j) 0 = get_or-take ((from + count) - from) (drop from cells) j 0 k ∙ get_or-drop from cells j 0 in
+      let shift : from + (j + 1) ≡ (from + j) + 1 = omega arith in
+      let more : keys_bytes kind these (j + 1) m ≡ keys_bytes kind cells ((from + j) + 1) m =
+      part_keys (j + 1) m (omega arith) ∙ ap (λ (i : ℕ). keys_bytes kind cells i m) shift in
+      keys_more kind these j m ∙ rw (item, more) refl ∙ sym (keys_more kind cells (from + j) m)
 
-    module _ (h : left ≤ 0) where
-      done : Writing l₀ at (keys_bytes kind cells from count) l p []
-      done = let e : left ≡ 0 = omega arith in rw (keys_none kind cells i) at (rw e at w)
+  part_long : length these ≡ count
+  part_long = length-take-le ((from + count) - from) (drop from cells) (omega (arith, r, length-drop from cells)) ∙ omega arith
 
-      pub keys_end : l ≡ over l₀ at (keys_bytes kind cells from count)
-      keys_end = writing_end l₀ at (keys_bytes kind cells from count) l p done
+  pub part_is : keys_bytes kind these 0 (length these) ≡ keys_bytes kind cells from count
+  part_is =
+      let e : from + 0 ≡ from = omega arith in
+      ap (keys_bytes kind these 0) part_long ∙ part_keys 0 count (omega arith) ∙ rw e refl
 
-      pub keys_place : p ≡ at + length (keys_bytes kind cells from count)
-      keys_place = writing_place l₀ at (keys_bytes kind cells from count) l p done
+module _ (l₀ : List ℕ) (at kind : ℕ) (cells : List ℕ) where
+  abbrev all_keys : List ℕ
+  all_keys = keys_bytes kind cells 0 (length cells)
+
+  -- those after the first j are still to be written
+  abbrev pub KeysFrom : List ℕ → ℕ → ℕ → Type 0
+  KeysFrom l p j = Writing l₀ at all_keys l p (keys_bytes kind cells j (length cells - j))
+
+  pub keys_start : KeysRoom l₀ at kind cells → KeysFrom l₀ at 0
+  keys_start r = let e : length cells - 0 ≡ length cells = omega arith in rw e (writing_start l₀ at all_keys r.space)
+
+  module _ (l : List ℕ) (p j : ℕ) (w : KeysFrom l p j) where
+    module _ (g : j < length cells) where
+      abbrev others : List ℕ
+      others = keys_bytes kind cells (j + 1) (length cells - (j + 1))
+
+      next : keys_bytes kind cells j (length cells - j) ≡ key_bytes kind (get_or cells j 0) ++ others
+      next = let e : length cells - j ≡ suc (length cells - (j + 1)) = omega arith in ap (keys_bytes kind cells j) e ∙ keys_more kind cells j (length cells - (j + 1))
+
+      pub keys_space : Space l p 7
+      keys_space =
+          let f : length (keys_bytes kind cells j (length cells - j)) ≡ 7 + length others =
+          ap length next ∙ length-append (key_bytes kind (get_or cells j 0)) others ∙ rw (key_length kind (get_or cells j 0)) in
+          record { inside = omega (arith, w.room, w.same) }
+
+      pub keys_turn : {l' : List ℕ} {q : ℕ} → l' ≡ over l p (key_bytes kind (get_or cells j 0)) → q ≡ p + length (key_bytes kind (get_or cells j 0)) → KeysFrom l' q (j + 1)
+      keys_turn {l'} {q} f g = writing_step l₀ at all_keys l p (key_bytes kind (get_or cells j 0)) others (rw next at w) l' f q g
+
+    module _ (h : length cells ≤ j) where
+      done : Writing l₀ at all_keys l p []
+      done = let e : length cells - j ≡ 0 = omega arith in rw (keys_none kind cells j) at (rw e at w)
+
+      pub keys_end : l ≡ over l₀ at all_keys
+      keys_end = writing_end l₀ at all_keys l p done
+
+      pub keys_place : p ≡ at + length all_keys
+      keys_place = writing_place l₀ at all_keys l p done
 
 pub ruleset keys_cases = (keys_start, keys_space, keys_turn, keys_end, keys_place)
 
@@ -182,19 +216,6 @@ row_length : (t : List ℕ) (i : ℕ) → length (row_bytes t i) ≡ 18
 unfolding row_bytes record_bytes field_bytes
 row_length t i = simp (length-append, number_length)
 
-module _ (l : List ℕ) (at : ℕ) (t : List ℕ) (i : ℕ) where
-  pub row_place : {r : ℕ} → r ≡ at + length (segment_bytes (get_or t (5 * i) 0) (get_or t (5 * i + 1) 0) (get_or t (5 * i + 2) 0) (get_or t (5 * i + 3) 0) (get_or t (5 * i + 4) 0))
-      → r ≡ at + length (row_bytes t i)
-  unfolding row_bytes segment_bytes
-  row_place e = e
-
-  pub row_written : {l' : List ℕ} → l' ≡ over l at (segment_bytes (get_or t (5 * i) 0) (get_or t (5 * i + 1) 0) (get_or t (5 * i + 2) 0) (get_or t (5 * i + 3) 0) (get_or t (5 * i + 4) 0))
-      → l' ≡ over l at (row_bytes t i)
-  unfolding row_bytes segment_bytes
-  row_written e = e
-
-pub ruleset row_cases = (row_place, row_written)
-
 module _ (l : List ℕ) (at b : ℕ) (t buffers : List ℕ) (i : ℕ) where
   piece_is : piece_bytes b t buffers i ≡ row_bytes t i ++ keys_bytes 4 buffers (i * b) (get_or t (5 * i + 4) 0)
   unfolding piece_bytes
@@ -203,24 +224,51 @@ module _ (l : List ℕ) (at b : ℕ) (t buffers : List ℕ) (i : ℕ) where
   pub piece_length : length (piece_bytes b t buffers i) ≡ 18 + length (keys_bytes 4 buffers (i * b) (get_or t (5 * i + 4) 0))
   piece_length = ap length piece_is ∙ length-append (row_bytes t i) (keys_bytes 4 buffers (i * b) (get_or t (5 * i + 4) 0)) ∙ rw (row_length t i)
 
-  pub row_asks : PieceRoom l at b t buffers i → RowRoom l at t i
-  row_asks r = record { space = omega (arith, piece_length, r.space); row = r.row; few = r.few }
+  pub segment_asks : PieceRoom l at b t buffers i → Space l at 18
+  segment_asks r = record { inside = omega (arith, piece_length, r.space) }
 
-  module _ {l₁ : List ℕ} (e : l₁ ≡ over l at (row_bytes t i)) {p : ℕ} (f : p ≡ at + length (row_bytes t i)) {h : ℕ} (held : h ≡ get_or t (5 * i + 4) 0) where
-    pub keys_asks : PieceRoom l at b t buffers i → KeysRoom l₁ p 4 buffers (i * b) h
-    keys_asks r =
-        let n : length l₁ ≡ length l = ap length e ∙ length_over l at (row_bytes t i) in
-        rw held (record { space = omega (arith, piece_length, row_length t i, r.space); inside = r.slots })
+  module _ (f : Fields) (fe : fields_of f ≡ row_in t i) where
+    row_is : segment_bytes f.first f.base f.rise f.run f.held ≡ row_bytes t i
+    unfolding row_bytes segment_bytes
+    row_is = ap (record_bytes first.segment) fe
 
-    pub piece_place : {q : ℕ} → q ≡ p + length (keys_bytes 4 buffers (i * b) h) → q ≡ at + length (piece_bytes b t buffers i)
-    piece_place {q} g =
-        let g' : q ≡ p + length (keys_bytes 4 buffers (i * b) (get_or t (5 * i + 4) 0)) = rw held at g in
-        omega (arith, piece_length, row_length t i, f)
+    held_is : f.held ≡ get_or t (5 * i + 4) 0
+    held_is = ap (λ (xs : List ℕ). get_or xs 4 0) fe
 
-    pub piece_written : {l₂ : List ℕ} → l₂ ≡ over l₁ p (keys_bytes 4 buffers (i * b) h) → l₂ ≡ over l at (piece_bytes b t buffers i)
-    piece_written g = rw piece_is (joined l at (row_bytes t i) e p (keys_bytes 4 buffers (i * b) (get_or t (5 * i + 4) 0)) (rw held at g) f)
+    module _ {l₁ : List ℕ} (w : l₁ ≡ over l at (segment_bytes f.first f.base f.rise f.run f.held)) {p : ℕ}
+        (pe : p ≡ at + length (segment_bytes f.first f.base f.rise f.run f.held)) {h : ℕ} (he : h ≡ f.held) where
+      row_written : l₁ ≡ over l at (row_bytes t i)
+      row_written = w ∙ rw row_is refl
 
-pub ruleset piece_cases = (slots_fit, row_asks, keys_asks, piece_place, piece_written)
+      row_place : p ≡ at + length (row_bytes t i)
+      row_place = pe ∙ rw row_is refl
+
+      held : h ≡ get_or t (5 * i + 4) 0
+      held = he ∙ held_is
+
+      module _ (r : PieceRoom l at b t buffers i) where
+        pub slots_asks : i * b + h ≤ length buffers
+        slots_asks = omega (arith, held, r.slots)
+
+        abbrev slots : List ℕ
+        slots = part buffers (i * b) h
+
+        keys_are : keys_bytes 4 slots 0 (length slots) ≡ keys_bytes 4 buffers (i * b) (get_or t (5 * i + 4) 0)
+        keys_are = part_is 4 buffers (i * b) h slots_asks ∙ ap (keys_bytes 4 buffers (i * b)) held
+
+        pub keys_asks : KeysRoom l₁ p 4 slots
+        keys_asks =
+            let n : length l₁ ≡ length l = ap length w ∙ length_over l at (segment_bytes f.first f.base f.rise f.run f.held) in
+            record { space = omega (arith, piece_length, row_length t i, row_place, r.space, ap length keys_are) }
+
+        pub piece_place : {q : ℕ} → q ≡ p + length (keys_bytes 4 slots 0 (length slots)) → q ≡ at + length (piece_bytes b t buffers i)
+        piece_place {q} g = omega (arith, g, piece_length, row_length t i, row_place, ap length keys_are)
+
+        pub piece_written : {l₂ : List ℕ} → l₂ ≡ over l₁ p (keys_bytes 4 slots 0 (length slots)) → l₂ ≡ over l at (piece_bytes b t buffers i)
+        piece_written g =
+            rw piece_is (joined l at (row_bytes t i) row_written p (keys_bytes 4 buffers (i * b) (get_or t (5 * i + 4) 0)) (g ∙ ap (over l₁ p) keys_are) row_place)
+
+pub ruleset piece_cases = (slots_fit, segment_asks, slots_asks, keys_asks, piece_place, piece_written)
 
 -- ---- all the segments
 pub pieces_none : (b : ℕ) (t buffers : List ℕ) (i : ℕ) → pieces_bytes b t buffers i 0 ≡ []
@@ -236,33 +284,37 @@ module _ (l₀ : List ℕ) (at b : ℕ) (t buffers : List ℕ) (s : ℕ) where
   abbrev all_pieces : List ℕ
   all_pieces = pieces_bytes b t buffers 0 s
 
-  pub pieces_start : PiecesRoom l₀ at b t buffers s → Writing l₀ at all_pieces l₀ at all_pieces
-  pieces_start r = writing_start l₀ at all_pieces r.space
+  -- those of the segments from i on are still to be written
+  abbrev pub PiecesFrom : List ℕ → ℕ → ℕ → Type 0
+  PiecesFrom l p i = Writing l₀ at all_pieces l p (pieces_bytes b t buffers i (s - i))
 
-  module _ (l : List ℕ) (p i left : ℕ) (w : Writing l₀ at all_pieces l p (pieces_bytes b t buffers i left)) where
-    more : 0 < left → pieces_bytes b t buffers i left ≡ piece_bytes b t buffers i ++ pieces_bytes b t buffers (i + 1) (left - 1)
-    more h = let e : left ≡ suc (left - 1) = omega arith in ap (pieces_bytes b t buffers i) e ∙ pieces_more b t buffers i (left - 1)
+  pub pieces_start : PiecesRoom l₀ at b t buffers s → PiecesFrom l₀ at 0
+  pieces_start r = let e : s - 0 ≡ s = omega arith in rw e (writing_start l₀ at all_pieces r.space)
 
-    pub piece_asks : 0 < left → i + left ≡ s → PiecesRoom l₀ at b t buffers s → PieceRoom l p b t buffers i
-    piece_asks h c r =
-        let f : length (pieces_bytes b t buffers i left) ≡ length (piece_bytes b t buffers i) + length (pieces_bytes b t buffers (i + 1) (left - 1)) =
-        ap length (more h) ∙ length-append (piece_bytes b t buffers i) (pieces_bytes b t buffers (i + 1) (left - 1)) in
-        record {
-          space = omega (arith, w.room, w.same);
-          row = omega (arith, r.rows);
-          few = omega (arith, r.few);
-          small = r.small;
-          slots = r.slots i (omega arith);
-        }
+  module _ (l : List ℕ) (p i : ℕ) (w : PiecesFrom l p i) where
+    module _ (h : i < s) where
+      more : pieces_bytes b t buffers i (s - i) ≡ piece_bytes b t buffers i ++ pieces_bytes b t buffers (i + 1) (s - (i + 1))
+      more = let e : s - i ≡ suc (s - (i + 1)) = omega arith in ap (pieces_bytes b t buffers i) e ∙ pieces_more b t buffers i (s - (i + 1))
 
-    pub pieces_turn : 0 < left → {l' : List ℕ} {q : ℕ} → l' ≡ over l p (piece_bytes b t buffers i) → q ≡ p + length (piece_bytes b t buffers i)
-        → Writing l₀ at all_pieces l' q (pieces_bytes b t buffers (i + 1) (left - 1))
-    pieces_turn h {l'} {q} f g =
-        writing_step l₀ at all_pieces l p (piece_bytes b t buffers i) (pieces_bytes b t buffers (i + 1) (left - 1)) (rw (more h) at w) l' f q g
+      pub piece_asks : PiecesRoom l₀ at b t buffers s → PieceRoom l p b t buffers i
+      piece_asks r =
+          let f : length (pieces_bytes b t buffers i (s - i)) ≡ length (piece_bytes b t buffers i) + length (pieces_bytes b t buffers (i + 1) (s - (i + 1))) =
+          ap length more ∙ length-append (piece_bytes b t buffers i) (pieces_bytes b t buffers (i + 1) (s - (i + 1))) in
+          record {
+            space = omega (arith, w.room, w.same);
+            row = omega (arith, r.rows);
+            few = omega (arith, r.few);
+            small = r.small;
+            slots = r.slots i h;
+          }
 
-    module _ (h : left ≤ 0) where
+      pub pieces_turn : {l' : List ℕ} {q : ℕ} → l' ≡ over l p (piece_bytes b t buffers i) → q ≡ p + length (piece_bytes b t buffers i) → PiecesFrom l' q (i + 1)
+      pieces_turn {l'} {q} f g =
+          writing_step l₀ at all_pieces l p (piece_bytes b t buffers i) (pieces_bytes b t buffers (i + 1) (s - (i + 1))) (rw more at w) l' f q g
+
+    module _ (h : s ≤ i) where
       all_done : Writing l₀ at all_pieces l p []
-      all_done = let e : left ≡ 0 = omega arith in rw (pieces_none b t buffers i) at (rw e at w)
+      all_done = let e : s - i ≡ 0 = omega arith in rw (pieces_none b t buffers i) at (rw e at w)
 
       pub pieces_end : l ≡ over l₀ at all_pieces
       pieces_end = writing_end l₀ at all_pieces l p all_done
@@ -319,37 +371,46 @@ module _ (l : List ℕ) (z : Sizes) (keys table buffers : List ℕ) where
     pub head_asks : Space l 0 9
     head_asks = record { inside = omega (arith, image_length σ, r.space) }
 
+    pub front_asks : z.n ≤ length keys
+    front_asks = omega (arith, r.limits.keys_hold)
+
+    -- its n keys, as a row of their own
+    abbrev front : List ℕ
+    front = take z.n keys
+
+    abbrev shown : List ℕ
+    shown = keys_bytes 2 front 0 (length front)
+
+    shown_is : shown ≡ run
+    shown_is = let e : (0 + z.n) - 0 ≡ z.n = omega arith in rw e at (part_is 2 keys 0 z.n (omega (arith, r.limits.keys_hold)))
+
     module _ {l₁ : List ℕ} (w₁ : l₁ ≡ over l 0 head) {p₁ : ℕ} (q₁ : p₁ ≡ 0 + length head) where
-      pub run_asks : KeysRoom l₁ p₁ 2 keys 0 z.n
+      pub run_asks : KeysRoom l₁ p₁ 2 front
       run_asks =
           let n : length l₁ ≡ length l = ap length w₁ ∙ length_over l 0 head in
-          record {
-            space = omega (arith, image_length σ, r.space, head_length z.e z.b z.n z.s, keys_length 2 keys 0 z.n);
-            inside = omega (arith, r.limits.keys_hold);
-          }
+          record { space = omega (arith, image_length σ, r.space, head_length z.e z.b z.n z.s, keys_length 2 keys 0 z.n, ap length shown_is) }
 
-      pub rest_asks : {l₂ : List ℕ} → l₂ ≡ over l₁ p₁ run → {p₂ : ℕ} → p₂ ≡ p₁ + length run → RestRoom l₂ p₂ z.b table buffers z.s
-      rest_asks {l₂} w₂ {p₂} q₂ =
-          let n : length l₂ ≡ length l = ap length w₂ ∙ length_over l₁ p₁ run ∙ ap length w₁ ∙ length_over l 0 head in
-          let end : p₂ + length (pieces_bytes z.b table buffers 0 z.s) + 1 ≤ length l₂ =
-          omega (arith, image_length σ, r.space, head_length z.e z.b z.n z.s, keys_length 2 keys 0 z.n, rest_length z.b table buffers z.s) in
-          record {
-            pieces = record { space = omega arith; rows = r.limits.table_holds; few = r.limits.s_limit; small = r.limits.b_limit; slots = r.slots };
-            end = end;
-          }
+      module _ {p₂ : ℕ} (q₂ : p₂ ≡ p₁ + length shown) {l₂ : List ℕ} (w₂ : l₂ ≡ over l₁ p₁ shown) where
+        pub rest_asks : RestRoom l₂ p₂ z.b table buffers z.s
+        rest_asks =
+            let n : length l₂ ≡ length l = ap length w₂ ∙ length_over l₁ p₁ shown ∙ ap length w₁ ∙ length_over l 0 head in
+            let end : p₂ + length (pieces_bytes z.b table buffers 0 z.s) + 1 ≤ length l₂ =
+            omega (arith, image_length σ, r.space, head_length z.e z.b z.n z.s, keys_length 2 keys 0 z.n, rest_length z.b table buffers z.s, ap length shown_is) in
+            record {
+              pieces = record { space = omega arith; rows = r.limits.table_holds; few = r.limits.s_limit; small = r.limits.b_limit; slots = r.slots };
+              end = end;
+            }
 
--- what stands there then
-module _ (l : List ℕ) (σ : Store) {l₁ : List ℕ} (w₁ : l₁ ≡ over l 0 (head_bytes σ.e σ.b σ.n σ.s)) {p₁ : ℕ} (q₁ : p₁ ≡ 0 + length (head_bytes σ.e σ.b σ.n σ.s))
-    {p₂ : ℕ} (q₂ : p₂ ≡ p₁ + length (keys_bytes 2 σ.keys 0 σ.n)) where
-  abbrev back : List ℕ
-  back = rest_bytes σ.b σ.table σ.buffers σ.s
+        -- what stands there then
+        abbrev back : List ℕ
+        back = rest_bytes z.b table buffers z.s
 
-  pub image_place : {p₃ : ℕ} → p₃ ≡ p₂ + length back → p₃ ≡ length (image_bytes first (image_in σ))
-  image_place q₃ = omega (arith, q₁, q₂, image_length σ, head_length σ.e σ.b σ.n σ.s, keys_length 2 σ.keys 0 σ.n)
+        pub image_place : {p₃ : ℕ} → p₃ ≡ p₂ + length back → p₃ ≡ length (image_bytes first (image_in σ))
+        image_place q₃ = omega (arith, q₁, q₂, image_length σ, head_length z.e z.b z.n z.s, keys_length 2 keys 0 z.n, ap length shown_is)
 
-  pub image_written : {l₂ : List ℕ} → l₂ ≡ over l₁ p₁ (keys_bytes 2 σ.keys 0 σ.n) → {l₃ : List ℕ} → l₃ ≡ over l₂ p₂ back → l₃ ≡ over l 0 (image_bytes first (image_in σ))
-  image_written {l₂} w₂ {l₃} w₃ =
-      let e : l₃ ≡ over l₁ p₁ (keys_bytes 2 σ.keys 0 σ.n ++ back) = joined l₁ p₁ (keys_bytes 2 σ.keys 0 σ.n) w₂ p₂ back w₃ q₂ in
-      joined l 0 (head_bytes σ.e σ.b σ.n σ.s) w₁ p₁ (keys_bytes 2 σ.keys 0 σ.n ++ back) e q₁ ∙ ap (over l 0) (sym (image_is σ))
+        pub image_written : {l₃ : List ℕ} → l₃ ≡ over l₂ p₂ back → l₃ ≡ over l 0 (image_bytes first (image_in σ))
+        image_written {l₃} w₃ =
+            let e : l₃ ≡ over l₁ p₁ (run ++ back) = joined l₁ p₁ run (w₂ ∙ ap (over l₁ p₁) shown_is) p₂ back w₃ (q₂ ∙ rw shown_is refl) in
+            joined l 0 head w₁ p₁ (run ++ back) e q₁ ∙ ap (over l 0) (sym (image_is σ))
 
-pub ruleset image_cases = (head_asks, run_asks, rest_asks, image_place, image_written)
+pub ruleset image_cases = (head_asks, front_asks, run_asks, rest_asks, image_place, image_written)

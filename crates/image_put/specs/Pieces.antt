@@ -46,14 +46,8 @@ unfoldable pub rest_bytes : ℕ → List ℕ → List ℕ → ℕ → List ℕ
 rest_bytes b t buffers s = pieces_bytes b t buffers 0 s ++ end_bytes
 
 -- ---- room
-pub record KeysRoom (l : List ℕ) (at kind : ℕ) (cells : List ℕ) (from count : ℕ) : Type 0 where
-  pub space : at + length (keys_bytes kind cells from count) ≤ length l
-  pub inside : from + count ≤ length cells
-
-pub record RowRoom (l : List ℕ) (at : ℕ) (t : List ℕ) (i : ℕ) : Type 0 where
-  pub space : at + 18 ≤ length l
-  pub row : 5 * i + 5 ≤ length t
-  pub few : i < s_most
+pub record KeysRoom (l : List ℕ) (at kind : ℕ) (cells : List ℕ) : Type 0 where
+  pub space : at + length (keys_bytes kind cells 0 (length cells)) ≤ length l
 
 pub record PieceRoom (l : List ℕ) (at b : ℕ) (t buffers : List ℕ) (i : ℕ) : Type 0 where
   pub space : at + length (piece_bytes b t buffers i) ≤ length l

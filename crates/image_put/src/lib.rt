@@ -8,48 +8,40 @@ ghost use Rattle.image_records.specs.Images.{image_bytes};
 ghost use Rattle.image_records.specs.First.{first};
 ghost use Rattle.image_records.specs.Stores.{image_in};
 ghost use Rattle.lists.specs.Over.{over, Space};
-ghost use Rattle.image_put.specs.Pieces.{byte_bytes, pair_bytes, line_bytes, key_bytes, keys_bytes, head_bytes, segment_bytes, row_bytes, piece_bytes, pieces_bytes, end_bytes, rest_bytes, KeysRoom, RowRoom, PieceRoom, PiecesRoom, RestRoom, ImageRoom};
+ghost use Rattle.image_put.specs.Pieces.{pair_bytes, line_bytes, key_bytes, keys_bytes, head_bytes, segment_bytes, piece_bytes, pieces_bytes, end_bytes, rest_bytes, KeysRoom, PieceRoom, PiecesRoom, RestRoom, ImageRoom};
 
+use image_records::Fields;
 use table::Store;
 use terms::Sizes;
 
-// Stored by a call, after which the length of the slice is known.
-fn byte(dst: &mut [u8], at: usize, x: u8)
-    requires { Space dst.old at 1 }
-    ensures { dst.new ≡ over dst.old at (byte_bytes x) }
-{
-    dst[at] = x;
-}
-
 // A record of one key.
+#[tactic(auto, using(crate::proofs::Laws::key_cases))]
 fn put_key(dst: &mut [u8], at: usize, kind: u8, x: u64) -> usize
     requires { Space dst.old at 7 }
     ensures place { result ≡ at + length (key_bytes kind x) }
     ensures cells { dst.new ≡ over dst.old at (key_bytes kind x) }
 {
-    byte(dst, at, kind);
+    dst[at] = kind;
     image_little::put(dst, at + 1, 6, x);
     at + 7
 }
 
-// A row of them, of `count` cells.
-fn put_keys(dst: &mut [u8], at: usize, kind: u8, cells: &[u64], from: usize, count: usize) -> usize
-    requires { KeysRoom dst.old at kind cells.now from count }
-    ensures place { result ≡ at + length (keys_bytes kind cells.now from count) }
-    ensures cells { dst.new ≡ over dst.old at (keys_bytes kind cells.now from count) }
+// A row of them, one for each cell.
+#[tactic(auto, using(crate::proofs::Laws::keys_cases))]
+fn put_keys(dst: &mut [u8], at: usize, kind: u8, cells: &[u64]) -> usize
+    requires { KeysRoom dst.old at kind cells.now }
+    ensures place { result ≡ at + length (keys_bytes kind cells.now 0 (length cells.now)) }
+    ensures cells { dst.new ≡ over dst.old at (keys_bytes kind cells.now 0 (length cells.now)) }
 {
     let mut p = at;
-    let mut i = from;
-    let mut left = count;
-    while 0 < left {
-        p = put_key(dst, p, kind, cells[i]);
-        i += 1;
-        left -= 1;
+    for &x in cells {
+        p = put_key(dst, p, kind, x);
     }
     p
 }
 
 // Two numbers of two bytes.
+#[tactic(auto, using(crate::proofs::Laws::pair_written))]
 fn put_pair(dst: &mut [u8], at: usize, x: u64, y: u64)
     requires { Space dst.old at 4 }
     ensures { dst.new ≡ over dst.old at (pair_bytes x y) }
@@ -58,26 +50,21 @@ fn put_pair(dst: &mut [u8], at: usize, x: u64, y: u64)
     image_little::put(dst, at + 2, 2, y);
 }
 
-// A count as a number.
-fn cell(x: usize) -> u64
-    ensures { result ≡ x }
-{
-    x as u64
-}
-
 // The head.
+#[tactic(auto, using(crate::proofs::Laws::head_cases))]
 fn put_head(dst: &mut [u8], z: Sizes) -> usize
     requires { Space dst.old 0 9 }
     ensures place { result ≡ 0 + length (head_bytes z.e z.b z.n z.s) }
     ensures cells { dst.new ≡ over dst.old 0 (head_bytes z.e z.b z.n z.s) }
 {
-    byte(dst, 0, 1);
-    put_pair(dst, 1, cell(z.e), cell(z.b));
-    put_pair(dst, 5, cell(z.n), cell(z.s));
+    dst[0] = 1;
+    put_pair(dst, 1, z.e as u64, z.b as u64);
+    put_pair(dst, 5, z.n as u64, z.s as u64);
     9
 }
 
 // A segment's base and line.
+#[tactic(auto, using(crate::proofs::Laws::line_written))]
 fn put_line(dst: &mut [u8], at: usize, base: u64, rise: u64, run: u64)
     requires { Space dst.old at 10 }
     ensures { dst.new ≡ over dst.old at (line_bytes base rise run) }
@@ -87,61 +74,44 @@ fn put_line(dst: &mut [u8], at: usize, base: u64, rise: u64, run: u64)
 }
 
 // A segment's record, of its five numbers: it starts as a record of its first key would.
-fn put_segment(
-    dst: &mut [u8],
-    at: usize,
-    first: u64,
-    base: u64,
-    rise: u64,
-    run: u64,
-    held: u64,
-) -> usize
+#[tactic(auto, using(crate::proofs::Laws::segment_cases))]
+fn put_segment(dst: &mut [u8], at: usize, f: Fields) -> usize
     requires { Space dst.old at 18 }
-    ensures place { result ≡ at + length (segment_bytes first base rise run held) }
-    ensures cells { dst.new ≡ over dst.old at (segment_bytes first base rise run held) }
+    ensures place { result ≡ at + length (segment_bytes f.first f.base f.rise f.run f.held) }
+    ensures cells { dst.new ≡ over dst.old at (segment_bytes f.first f.base f.rise f.run f.held) }
 {
-    put_key(dst, at, 3, first);
-    put_line(dst, at + 7, base, rise, run);
-    image_little::put(dst, at + 17, 1, held);
+    put_key(dst, at, 3, f.first);
+    put_line(dst, at + 7, f.base, f.rise, f.run);
+    image_little::put(dst, at + 17, 1, f.held);
     at + 18
 }
 
 // The end.
+#[tactic(auto, using(crate::proofs::Laws::end_cases))]
 fn put_end(dst: &mut [u8], at: usize) -> usize
     requires { Space dst.old at 1 }
     ensures place { result ≡ at + length end_bytes }
     ensures cells { dst.new ≡ over dst.old at end_bytes }
 {
-    byte(dst, at, 9);
+    dst[at] = 9;
     at + 1
 }
 
-// Segment i's record.
-fn put_row(dst: &mut [u8], at: usize, table: &[u64], i: usize) -> usize
-    requires { RowRoom dst.old at table.now i }
-    ensures place { result ≡ at + length (row_bytes table.now i) }
-    ensures cells { dst.new ≡ over dst.old at (row_bytes table.now i) }
-{
-    let first = table[5 * i];
-    let base = table[5 * i + 1];
-    let rise = table[5 * i + 2];
-    let run = table[5 * i + 3];
-    let held = table[5 * i + 4];
-    put_segment(dst, at, first, base, rise, run, held)
-}
-
 // A segment and its buffered keys.
+#[tactic(auto, using(crate::proofs::Laws::piece_cases))]
 fn put_piece(dst: &mut [u8], at: usize, b: usize, table: &[u64], buffers: &[u64], i: usize) -> usize
     requires { PieceRoom dst.old at b table.now buffers.now i }
     ensures place { result ≡ at + length (piece_bytes b table.now buffers.now i) }
     ensures cells { dst.new ≡ over dst.old at (piece_bytes b table.now buffers.now i) }
 {
-    let h = terms::size(table[5 * i + 4]);
-    let p = put_row(dst, at, table, i);
-    put_keys(dst, p, 4, buffers, i * b, h)
+    let f = Fields::of(table, i);
+    let p = put_segment(dst, at, f);
+    let from = i * b;
+    put_keys(dst, p, 4, &buffers[from..from + terms::size(f.held)])
 }
 
 // All the segments.
+#[tactic(auto, using(crate::proofs::Laws::pieces_cases))]
 fn put_pieces(
     dst: &mut [u8],
     at: usize,
@@ -155,17 +125,14 @@ fn put_pieces(
     ensures cells { dst.new ≡ over dst.old at (pieces_bytes b table.now buffers.now 0 s) }
 {
     let mut p = at;
-    let mut i = 0;
-    let mut left = s;
-    while 0 < left {
+    for i in 0..s {
         p = put_piece(dst, p, b, table, buffers, i);
-        i += 1;
-        left -= 1;
     }
     p
 }
 
 // The segments, then the end.
+#[tactic(auto, using(crate::proofs::Laws::rest_cases))]
 fn put_rest(dst: &mut [u8], at: usize, b: usize, table: &[u64], buffers: &[u64], s: usize) -> usize
     requires { RestRoom dst.old at b table.now buffers.now s }
     ensures place { result ≡ at + length (rest_bytes b table.now buffers.now s) }
@@ -176,6 +143,7 @@ fn put_rest(dst: &mut [u8], at: usize, b: usize, table: &[u64], buffers: &[u64],
 }
 
 // The whole image of a store that can be written, over a slice with room for it.
+#[tactic(auto, using(crate::proofs::Laws::image_cases))]
 pub fn put_image(dst: &mut [u8], store: Store) -> usize
     requires { ImageRoom dst.old (store_in store) }
     ensures place { result ≡ length (image_bytes first (image_in (store_in store.entry))) }
@@ -183,6 +151,6 @@ pub fn put_image(dst: &mut [u8], store: Store) -> usize
 {
     let z = store.sizes;
     let p = put_head(dst, z);
-    let q = put_keys(dst, p, 2, store.keys, 0, z.n);
+    let q = put_keys(dst, p, 2, &store.keys[..z.n]);
     put_rest(dst, q, z.b, store.table, store.buffers, z.s)
 }

@@ -1,82 +1,32 @@
 -- The cases of reading an image.
 -- Assumes nothing.
 use Rattle.std.specs.Prelude.{Result, Ok, Err}
-use mathlib.Core.Path.{◌≡◌, refl, sym, ap, ◌∙◌}
-use mathlib.Core.Bool.{Bool, true, false}
+use mathlib.Core.Path.{◌≡◌, refl, sym, ap}
+use mathlib.Core.Bool.{true}
 use mathlib.Core.List.{List}
-use Prim.Native.Nat.{ℕ, ◌≤◌, ◌<◌}
+use Prim.Native.Nat.{ℕ, ◌≤◌}
 use native.Mathlib.Omega.{arith}
-use lib.Dec.{leb}
 use borrow.Author.Tests.{leb-true}
 use Rattle.terms.specs.declared.Sizes.{Sizes}
 use Rattle.terms.specs.declared.Refusal.{Refusal}
 use Rattle.terms.specs.declared.Refusal.TheVariants.{KeyRoom, SegmentRoom}
-use Rattle.lists.specs.Over.{over}
 use Rattle.lists.proofs.Tests.{either}
 use Rattle.table.specs.Store.{store_of}
 use Rattle.table.specs.Limits.{Limits, Counted, key_room, segment_room}
 use Rattle.table.proofs.Limits.{Holds, room_holds}
-use Rattle.image_records.specs.Images.{layout_of, image_at}
+use Rattle.image_records.specs.Images.{layout_of}
 use Rattle.image_records.specs.First.{first}
-use Rattle.image_records.specs.Stores.{firsts, rows_of, slots_by}
 use Rattle.image_judge.specs.Judging.{judged_of}
 use Rattle.image_fill.specs.Filling.{ImageFill}
 use Rattle.image_read.specs.Loading.{keys_held, segments_held, roomed_of, after_judged, load_of, keys_by, table_by, buffers_by}
-use Rattle.image_read.proofs.Told.{Told, well_told, told_head}
-
--- ---- keys_held, segments_held, roomed
-
-pub keys_answered : (n : ℕ) (keys : List ℕ) {k : ℕ} → k ≡ key_room keys → leb n k ≡ keys_held n keys
-unfolding keys_held
-keys_answered n keys e = ap (leb n) e
-
-pub ruleset keys_cases = (keys_answered)
-
-pub segments_answered : (b s : ℕ) (t bs : List ℕ) {k : ℕ} → k ≡ segment_room b t bs → leb s k ≡ segments_held b s t bs
-unfolding segments_held
-segments_answered b s t bs e = ap (leb s) e
-
-pub ruleset segments_cases = (segments_answered)
-
-pub some_slots : (z : Sizes) → Counted z.e z.b z.n z.s → 0 < z.b
-some_slots z c = c.b_least
-
-module _ (z : Sizes) (keys t bs : List ℕ) {k : Bool} (keys_told : k ≡ keys_held z.n keys) where
-  pub no_keys : k ≡ false → Err KeyRoom ≡ roomed_of z keys t bs
-  unfolding roomed_of
-  no_keys q = simp (sym keys_told ∙ q)
-
-  module _ (yes : k ≡ true) {r : Bool} (segments_told : r ≡ segments_held z.b z.s t bs) where
-    pub no_segments : r ≡ false → Err SegmentRoom ≡ roomed_of z keys t bs
-    unfolding roomed_of
-    no_segments q = simp (sym keys_told ∙ yes, sym segments_told ∙ q)
-
-    pub has_room : r ≡ true → Ok z ≡ roomed_of z keys t bs
-    unfolding roomed_of
-    has_room q = simp (sym keys_told ∙ yes, sym segments_told ∙ q)
-
-pub ruleset roomed_cases = (some_slots, no_keys, no_segments, has_room)
+use Rattle.image_read.proofs.Told.{Told, not_both, well_told, told_head}
 
 -- ---- decide
-
-module _ (l keys t bs : List ℕ) where
-  pub decide_well : {z : Sizes} → Ok z ≡ judged_of (layout_of first) l → {r : Result Sizes Refusal} → r ≡ roomed_of z keys t bs → r ≡ load_of l keys t bs
-  unfolding load_of
-  decide_well q p = simp (sym q) p
-
-  pub decide_refused : {x : Refusal} → Err x ≡ judged_of (layout_of first) l → Err x ≡ load_of l keys t bs
-  unfolding load_of
-  decide_refused q = simp (sym q)
 
 pub roomed_asks : (l : List ℕ) (z : Sizes) → Ok z ≡ judged_of (layout_of first) l → Counted z.e z.b z.n z.s
 roomed_asks l z q = (well_told l z (sym q)).counted
 
-pub ruleset decide_cases = (decide_well, roomed_asks)
-
 -- ---- what an accepted image tells, with the rooms
-
-pub not_both : {C : Type 0} (r : Refusal) (z : Sizes) → Err r ≡ Ok z → C
-not_both r z q = absurd (let z : ◌≡◌ {A = ℕ} 0 1 = cc in omega arith)
 
 pub record Taken (l : List ℕ) (z : Sizes) (keys t bs : List ℕ) : Type 0 where
   pub told : Told l z
@@ -114,30 +64,20 @@ module _ (l keys t bs : List ℕ) where
   unfolding load_of
   taken z q = judged_taken (judged_of (layout_of first) l) z refl q
 
--- ---- carry_out
+-- ---- read_image
 
-module _ (l keys t bs : List ℕ) {a : Result Sizes Refusal} {z : Sizes} (q : a ≡ Ok z) where
-  pub fill_asks : a ≡ load_of l keys t bs → ImageFill l z keys t bs
-  fill_asks decided =
-      let got : Taken l z keys t bs = taken l keys t bs z (sym decided ∙ q) in
-      record {
-        told = told_head l z got.told;
-        limits = got.limits;
-        run = got.told.run;
-        last = got.told.end;
-        judged = got.told.judged;
-      }
+pub fill_asks : (l : List ℕ) (z : Sizes) (keys t bs : List ℕ) → Ok z ≡ load_of l keys t bs → ImageFill l z keys t bs
+fill_asks l z keys t bs decided =
+    let got : Taken l z keys t bs = taken l keys t bs z (sym decided) in
+    record {
+      told = told_head l z got.told;
+      limits = got.limits;
+      run = got.told.run;
+      last = got.told.end;
+      judged = got.told.judged;
+    }
 
-  pub keys_loaded : {c : List ℕ} → c ≡ over keys 0 (firsts (image_at first l).keys) → c ≡ keys_by a l keys
-  keys_loaded g = g ∙ ap (λ (a : Result Sizes Refusal). keys_by a l keys) (sym q)
-
-  pub table_loaded : {c : List ℕ} → c ≡ over t 0 (rows_of (image_at first l).parts) → c ≡ table_by a l t
-  table_loaded g = g ∙ ap (λ (a : Result Sizes Refusal). table_by a l t) (sym q)
-
-  pub buffers_loaded : {c : List ℕ} → c ≡ slots_by z.b (image_at first l).parts 0 bs → c ≡ buffers_by a l bs
-  buffers_loaded g = g ∙ ap (λ (a : Result Sizes Refusal). buffers_by a l bs) (sym q)
-
--- a refusal leaves every cell as it was
+-- A refusal leaves every cell as it was. The check finds this alone; the laws stand since docs/DECISIONS.md names them.
 module _ (l : List ℕ) {a : Result Sizes Refusal} {r : Refusal} (q : a ≡ Err r) (c : List ℕ) where
   pub keys_left : c ≡ keys_by a l c
   keys_left = ap (λ (a : Result Sizes Refusal). keys_by a l c) (sym q)
@@ -147,9 +87,3 @@ module _ (l : List ℕ) {a : Result Sizes Refusal} {r : Refusal} (q : a ≡ Err 
 
   pub buffers_left : c ≡ buffers_by a l c
   buffers_left = ap (λ (a : Result Sizes Refusal). buffers_by a l c) (sym q)
-
-pub ruleset keys_by_lem = (keys_loaded, keys_left)
-
-pub ruleset table_by_lem = (table_loaded, table_left)
-
-pub ruleset buffers_by_lem = (buffers_loaded, buffers_left)

@@ -33,7 +33,7 @@ pub record Told (l : List ℕ) (z : Sizes) : Type 0 where
   pub end : ℕ
   pub judged : parts_of (layout_of first) z.b l z.s (9 + 7 * z.n) ≡ Ok end
 
-not_both : {C : Type 0} (r : Refusal) (z : Sizes) → Err r ≡ Ok z → C
+pub not_both : {C : Type 0} (r : Refusal) (z : Sizes) → Err r ≡ Ok z → C
 not_both r z q = absurd (let z : ◌≡◌ {A = ℕ} 0 1 = cc in omega arith)
 
 module _ (l : List ℕ) (z : Sizes) (is : z ≡ sizes_at l) (head : stands_at (kind_of first.head) l 0 ≡ true) where

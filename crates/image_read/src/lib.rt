@@ -8,6 +8,7 @@ ghost use Rattle.image_read.specs.Loading.{keys_held, segments_held, roomed_of, 
 use terms::{Refusal, Sizes};
 
 // Whether there is room for n keys.
+#[tactic(auto, unfolding(crate::specs::Loading::keys_held))]
 fn keys_held(n: usize, keys: &[u64]) -> bool
     ensures { result ≡ keys_held n keys.now }
 {
@@ -15,6 +16,7 @@ fn keys_held(n: usize, keys: &[u64]) -> bool
 }
 
 // Whether there is room for s segments.
+#[tactic(auto, unfolding(crate::specs::Loading::segments_held))]
 fn segments_held(b: usize, s: usize, table: &[u64], buffers: &[u64]) -> bool
     requires { 0 < b }
     ensures { result ≡ segments_held b s table.now buffers.now }
@@ -23,6 +25,7 @@ fn segments_held(b: usize, s: usize, table: &[u64], buffers: &[u64]) -> bool
 }
 
 // Refusals 6 and 7, for counts within their limits.
+#[tactic(auto, unfolding(crate::specs::Loading::roomed_of))]
 fn roomed(z: Sizes, keys: &[u64], table: &[u64], buffers: &[u64]) -> Result<Sizes, Refusal>
     requires { Counted z.e z.b z.n z.s }
     ensures { result ≡ roomed_of z keys.now table.now buffers.now }
@@ -37,32 +40,12 @@ fn roomed(z: Sizes, keys: &[u64], table: &[u64], buffers: &[u64]) -> Result<Size
 }
 
 // The answer; it reads only.
+#[tactic(auto, using(crate::proofs::Laws::roomed_asks), unfolding(crate::specs::Loading::load_of))]
 fn decide(image: &[u8], keys: &[u64], table: &[u64], buffers: &[u64]) -> Result<Sizes, Refusal>
     ensures { result ≡ load_of image.now keys.now table.now buffers.now }
 {
     let z = image_judge::judge(image)?;
     roomed(z, keys, table, buffers)
-}
-
-// What was decided is read into the cells.
-fn carry_out(
-    image: &[u8],
-    keys: &mut [u64],
-    table: &mut [u64],
-    buffers: &mut [u64],
-    a: Result<Sizes, Refusal>,
-)
-    requires { a ≡ load_of image.now keys.old table.old buffers.old }
-    ensures keys { keys.new ≡ keys_by a image.now keys.old }
-    ensures table { table.new ≡ table_by a image.now table.old }
-    ensures buffers { buffers.new ≡ buffers_by a image.now buffers.old }
-{
-    match a {
-        Ok(z) => {
-            image_fill::fill(image, z, keys, table, buffers);
-        }
-        Err(r) => {}
-    }
 }
 
 // Reads an image of the first edition into the slices: refusals 10 (head), 1, 10 (rest), 6, 7; else exactly the used cells are set.
@@ -77,7 +60,7 @@ pub fn read_image(
     ensures table { table.new ≡ table_by result image.now table.old }
     ensures buffers { buffers.new ≡ buffers_by result image.now buffers.old }
 {
-    let decided = decide(image, keys, table, buffers);
-    carry_out(image, keys, table, buffers, decided);
-    decided
+    let z = decide(image, keys, table, buffers)?;
+    image_fill::fill(image, z, keys, table, buffers);
+    Ok(z)
 }

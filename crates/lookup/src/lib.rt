@@ -13,8 +13,7 @@ use terms::{Entry, Key, Pos, Refusal};
 fn in_used(i: usize, used: &[u64], k: Key) -> Looked
     ensures { result ≡ buffered_of i used.now k.0 }
 {
-    let slot = scan::find(used, 0, used.len(), k.0);
-    match slot {
+    match scan::find(used, 0, used.len(), k.0) {
         Some(j) => Looked::InBuffer {
             segment: i,
             slot: j,
@@ -29,8 +28,7 @@ fn in_segment(e: usize, x: Entry, i: usize, run: &[u64], used: &[u64], k: Key) -
     ensures { result ≡ searched_of e x i run.now used.now k }
 {
     let w = line::reach(x, k, e);
-    let place = scan::find(run, w.from, w.to, k.0);
-    match place {
+    match scan::find(run, w.from, w.to, k.0) {
         Some(p) => {
             let at = x.base.0 + p;
             Looked::InRun(Pos(at))
