@@ -5,7 +5,7 @@ ghost use Rattle.std.specs.Option.{UnwrapsOrElse};
 ghost use Rattle.compare_plain.specs.Cells.{sum_of, product_of};
 
 // What sum and product answer where no store holds so much.
-const NONE: u64 = u64::MAX;
+pub const NONE: u64 = u64::MAX;
 
 // A key is below 2^44.
 pub const KEYS: u64 = 1 << 44;

@@ -25,7 +25,8 @@ fn later_fault(x: Lent, i: u64) -> Option<u64> {
 fn judged_merge(x: Lent, i: u64, k: u64) -> Result<Made, [u64; 8]> {
     let mut list = List::new();
     let mut entries = [0u64; ENTRIES];
-    if joined(x, i, k, &mut list).is_none() || !rising(list.as_slice()) {
+    let m = joined(x, i, k, &mut list);
+    if (list.len() as u64) < m || !rising(list.as_slice()) {
         return Err(Refusal::Wrong.at(i));
     }
     if let Some(j) = later_fault(x, i) {

@@ -1,4 +1,4 @@
-// What an insert makes and writes, from document 01 alone: the keys and the entries of the segment are made anew in lists of their own.
+// What an insert makes and writes, from document 01 alone: everything is made anew in a list of its own, then copied back.
 #![tactic(auto)]
 
 ghost use Rattle.std.specs.Prelude.{◌≡◌};
@@ -8,19 +8,13 @@ use compare_plain::segment::{Entry, Lent, put_entry};
 use compare_plain_build::{ENTRIES, cut};
 use compare_plain_reads::merge::{List, merge};
 
-// The run, the used slots, which rise, and k as one list; none where the list has no room for all of them.
-pub fn joined(x: Lent, i: u64, k: u64, list: &mut List) -> Option<()> {
+// The run, the used slots, which rise, and k as one list, as far as that has room. How many keys they are.
+pub fn joined(x: Lent, i: u64, k: u64, list: &mut List) -> u64 {
+    let (run, used) = (x.run(i), x.used(i));
     let mut slots = List::new();
-    merge(x.used(i), &[k], &mut slots)?;
-    merge(x.run(i), slots.as_slice(), list)
-}
-
-// m cells of a slice moved from its place `from` on to its place `to` on; none where they do not all lie in the slice.
-fn moved(s: &mut [u64], from: u64, m: u64, to: u64) {
-    let length = s.len() as u64;
-    if m <= length && from <= length - m && to <= length - m {
-        s.copy_within(from as usize..(from + m) as usize, to as usize);
-    }
+    merge(used, &[k], &mut slots);
+    merge(run, slots.as_slice(), list);
+    sum(run.len() as u64, sum(used.len() as u64, 1))
 }
 
 // A store that is written to: e, B, n and s, and the three slices.
@@ -59,28 +53,54 @@ impl<'a> Store<'a> {
         let x = self.lent();
         let entry = x.entry(i);
         let mut slots = List::new();
-        if merge(x.used(i), &[k], &mut slots).is_some() {
-            let held = slots.len() as u64;
-            copy(slots.as_slice(), 0, held, self.buffers, product(i, self.b));
-            put_entry(self.table, i, Entry { held, ..entry });
-        }
+        merge(x.used(i), &[k], &mut slots);
+        let held = slots.len() as u64;
+        copy(slots.as_slice(), 0, held, self.buffers, product(i, self.b));
+        put_entry(self.table, i, Entry { held, ..entry });
     }
 
-    // The used slots of segments after i move by d segments, and their entries by d places, with B more as their bases; the last first, so that none
-    // is written over before it has moved.
-    fn later(&mut self, i: u64, d: u64) {
-        for j in (sum(i, 1)..self.s).rev() {
-            let entry = self.lent().entry(j);
-            let to = sum(j, d);
-            moved(
-                self.buffers,
-                product(j, self.b),
-                entry.held,
-                product(to, self.b),
-            );
-            let base = sum(entry.base, self.b);
-            put_entry(self.table, to, Entry { base, ..entry });
+    // The merge's keys: the list at the run's place, and what follows the run moved by B.
+    fn new_keys(&mut self, from: u64, to: u64, list: &[u64]) {
+        let mut work = [0u64; 256];
+        let all = self.keys.len() as u64;
+        let rest = self.n.saturating_sub(to);
+        let past = sum(to, self.b);
+        copy(self.keys, 0, all, &mut work, 0);
+        copy(self.keys, to, rest, &mut work, past);
+        copy(list, 0, list.len() as u64, &mut work, from);
+        copy(&work, 0, all, self.keys, 0);
+    }
+
+    // The merge's slots: the used ones of segments after i moved by d segments.
+    fn new_slots(&mut self, i: u64, d: u64) {
+        let mut work = [0u64; 512];
+        let all = self.buffers.len() as u64;
+        copy(self.buffers, 0, all, &mut work, 0);
+        for j in sum(i, 1)..self.s {
+            let held = self.lent().entry(j).held;
+            let from = product(j, self.b);
+            let to = product(sum(j, d), self.b);
+            copy(self.buffers, from, held, &mut work, to);
         }
+        copy(&work, 0, all, self.buffers, 0);
+    }
+
+    // The merge's table: t new entries at i, and those after i moved, with B more as their bases.
+    fn new_table(&mut self, i: u64, entries: &[u64], t: u64) {
+        let mut work = [0u64; 320];
+        let all = self.table.len() as u64;
+        copy(self.table, 0, all, &mut work, 0);
+        for j in sum(i, 1)..self.s {
+            let entry = self.lent().entry(j);
+            let base = sum(entry.base, self.b);
+            put_entry(
+                &mut work,
+                sum(j, t.saturating_sub(1)),
+                Entry { base, ..entry },
+            );
+        }
+        copy(entries, 0, product(t, 5), &mut work, product(i, 5));
+        copy(&work, 0, all, self.table, 0);
     }
 
     // Segment i merged with k, and cut again.
@@ -90,12 +110,10 @@ impl<'a> Store<'a> {
         let to = x.end(i);
         let mut list = List::new();
         let mut entries = [0u64; ENTRIES];
-        if joined(x, i, k, &mut list).is_some() {
-            let t = cut(self.e, list.as_slice(), from, &mut entries);
-            moved(self.keys, to, self.n.saturating_sub(to), sum(to, self.b));
-            copy(list.as_slice(), 0, list.len() as u64, self.keys, from);
-            self.later(i, t.saturating_sub(1));
-            copy(&entries, 0, product(t, 5), self.table, product(i, 5));
-        }
+        joined(x, i, k, &mut list);
+        let t = cut(self.e, list.as_slice(), from, &mut entries);
+        self.new_keys(from, to, list.as_slice());
+        self.new_slots(i, t.saturating_sub(1));
+        self.new_table(i, &entries, t);
     }
 }

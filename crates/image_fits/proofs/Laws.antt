@@ -128,13 +128,18 @@ module _ (b : ℕ) (t bs : List ℕ) (i : ℕ) {f : Fields} (row : fields_of f �
   entry_refused (inl q) = first_fails row_fits held_below slots_fit_all (sym row_told ∙ q)
   entry_refused (inr q) = second_fails row_fits held_below slots_fit_all (sym row_told ∙ q.0) (ap (λ (k : ℕ). ltb k b) (sym held_told) ∙ le-ltb h b q.1)
 
+  -- the same, where more than B are held: so a test that lets B pass is refused for that alone
+  pub entry_over : (y ≡ false) ⊎ ((y ≡ true) × (b < h)) → false ≡ entry_fits b t bs i
+  entry_over (inl q) = entry_refused (inl q)
+  entry_over (inr q) = let full : b ≤ h = omega (arith, q.1) in entry_refused (inr (q.0, full))
+
   pub entry_answered : y ≡ true → h < b → {r : Bool} → IsTrue r ↔ All (λ k. k < 256 ^ 6) (take (i * b + h - i * b) (drop (i * b) bs)) → i * b + h ≤ length bs → r ≡ entry_fits b t bs i
   unfolding entry_fits
   entry_answered fit g {r} told inside =
       entry_last row_fits held_below slots_fit_all (sym row_told ∙ fit) (ap (λ (k : ℕ). ltb k b) (sym held_told) ∙ lt-ltb h b g)
       (part_fits bs (i * b) (i * b + h) told inside ∙ ap (λ (k : ℕ). cells_fit first.key.widths bs (i * b) (i * b + k)) held_told)
 
-pub ruleset entry_cases = (row_asks, slot_fits, slots_inside, slots_fit, entry_refused, entry_answered)
+pub ruleset entry_cases = (row_asks, slot_fits, slots_inside, slots_fit, entry_refused, entry_over, entry_answered)
 
 -- ---- lowest_wrong
 

@@ -46,6 +46,7 @@ fn held_at(bytes: &[u8], f: Layout, at: usize) -> usize
 }
 
 // Along one segment and its buffered keys.
+#[tactic(auto, using(crate::proofs::Laws::part_cases))]
 fn part(bytes: &[u8], f: Layout, b: usize, at: usize) -> Result<usize, usize>
     requires { Readable f bytes.now at }
     ensures { result ≡ part_of f b bytes.now at }

@@ -1,7 +1,7 @@
 // Reading an image into lent slices. Everything is decided, over the whole image, before a cell is written.
 #![tactic(auto)]
 
-ghost use Rattle.std.specs.Prelude.{◌≡◌, ◌<◌};
+ghost use Rattle.std.specs.Prelude.{◌≡◌, ◌<◌, Ok};
 ghost use Rattle.table.specs.Limits.{Counted};
 ghost use Rattle.image_read.specs.Loading.{keys_held, segments_held, roomed_of, load_of, keys_by, table_by, buffers_by};
 
@@ -48,6 +48,16 @@ fn decide(image: &[u8], keys: &[u64], table: &[u64], buffers: &[u64]) -> Result<
     roomed(z, keys, table, buffers)
 }
 
+// What was decided is read into the cells.
+fn carry_out(image: &[u8], z: Sizes, keys: &mut [u64], table: &mut [u64], buffers: &mut [u64])
+    requires { Ok z ≡ load_of image.now keys.old table.old buffers.old }
+    ensures keys { keys.new ≡ keys_by (Ok z) image.now keys.old }
+    ensures table { table.new ≡ table_by (Ok z) image.now table.old }
+    ensures buffers { buffers.new ≡ buffers_by (Ok z) image.now buffers.old }
+{
+    image_fill::fill(image, z, keys, table, buffers);
+}
+
 // Reads an image of the first edition into the slices: refusals 10 (head), 1, 10 (rest), 6, 7; else exactly the used cells are set.
 pub fn read_image(
     image: &[u8],
@@ -60,7 +70,7 @@ pub fn read_image(
     ensures table { table.new ≡ table_by result image.now table.old }
     ensures buffers { buffers.new ≡ buffers_by result image.now buffers.old }
 {
-    let z = decide(image, keys, table, buffers)?;
-    image_fill::fill(image, z, keys, table, buffers);
-    Ok(z)
+    let decided = decide(image, keys, table, buffers)?;
+    carry_out(image, decided, keys, table, buffers);
+    Ok(decided)
 }

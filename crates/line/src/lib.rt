@@ -21,6 +21,7 @@ pub struct Places {
 }
 
 // base + (k - first) * rise / run, rounded down. Below the first key nothing is subtracted, and there is no guess.
+#[tactic(auto, using(crate::proofs::Laws::guess_cases, crate::proofs::Laws::guess_none))]
 pub fn guess(x: Entry, k: Key) -> Option<Pos>
     requires { Lined x k }
     ensures { result ≡ guess_of x k }

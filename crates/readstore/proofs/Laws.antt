@@ -20,14 +20,14 @@ use Rattle.insert.specs.Insert.{insert_of}
 use Rattle.insert.specs.Cells.{keys_by as inserted_keys, table_by as inserted_table, buffers_by as inserted_buffers}
 use Rattle.image_write.specs.Writing.{write_of, out_by}
 use Rattle.image_read.specs.Loading.{load_of, keys_by, table_by as loaded_table, buffers_by}
-use Rattle.readstore_numbers.proofs.Laws.{built_are, checked_are, looked_are, ranged_are, inserted_are, written_are, loaded_are}
-use Rattle.readstore_numbers.specs.Numbers.{answer_numbers, unit_numbers, count_numbers, found_numbers, taken_numbers, sizes_numbers, built_numbers, checked_numbers, looked_numbers, ranged_numbers, inserted_numbers, written_numbers, loaded_numbers}
+use Rattle.readstore_numbers.proofs.Laws.{checked_are, looked_are, inserted_are, loaded_are}
+use Rattle.readstore_numbers.specs.Numbers.{answer_numbers, unit_numbers, found_numbers, taken_numbers, sizes_numbers, built_numbers, checked_numbers, looked_numbers, ranged_numbers, inserted_numbers, written_numbers, loaded_numbers}
 
 -- the caller's numbers are the call's
 
 module _ {e b n f c m : ℕ} (keys table buffers : List ℕ) (pe : f ≡ e) (pb : c ≡ b) (pn : m ≡ n) {a : Result ℕ Refusal} (call : a ≡ built_of f c m keys table buffers) where
-  pub build_answered : {l : List ℕ} → l ≡ answer_numbers count_numbers a → l ≡ built_numbers (built_of e b n keys table buffers)
-  build_answered p = p ∙ built_are a ∙ ap built_numbers (rw (← pe, ← pb, ← pn) call)
+  pub build_answered : {l : List ℕ} → l ≡ built_numbers a → l ≡ built_numbers (built_of e b n keys table buffers)
+  build_answered p = p ∙ ap built_numbers (rw (← pe, ← pb, ← pn) call)
 
   pub build_written : {after : List ℕ} → after ≡ table_by a f m keys table → after ≡ table_by (built_of e b n keys table buffers) e n keys table
   build_written p = rw (← pe, ← pb, ← pn) (p ∙ ap (λ (x : Result ℕ Refusal). table_by x f m keys table) call)
@@ -44,8 +44,8 @@ module _ (σ τ : Store) (is : τ ≡ σ) where
   lookup_answered k {a} call p = p ∙ looked_are a ∙ ap looked_numbers (rw (← is) call)
 
   module _ (low high : ℕ) (out : List ℕ) {a : Result ℕ Refusal} (call : a ≡ range_of τ low high (length out)) where
-    pub range_answered : {l : List ℕ} → l ≡ answer_numbers count_numbers a → l ≡ ranged_numbers (range_of σ low high (length out))
-    range_answered p = p ∙ ranged_are a ∙ ap ranged_numbers (rw (← is) call)
+    pub range_answered : {l : List ℕ} → l ≡ ranged_numbers a → l ≡ ranged_numbers (range_of σ low high (length out))
+    range_answered p = p ∙ ap ranged_numbers (rw (← is) call)
 
     pub range_written : {after : List ℕ} → after ≡ ranged_out (keys_from τ low high) a out → after ≡ ranged_out (keys_from σ low high) (range_of σ low high (length out)) out
     range_written p = rw (← is) (p ∙ ap (λ (x : Result ℕ Refusal). ranged_out (keys_from τ low high) x out) call)
@@ -64,8 +64,8 @@ module _ (σ τ : Store) (is : τ ≡ σ) where
     insert_buffers p = rw (← is) (p ∙ ap (λ (x : Result Inserted Refusal). inserted_buffers x τ k) call)
 
   module _ (out : List ℕ) {a : Result ℕ Refusal} (call : a ≡ write_of τ (length out)) where
-    pub write_answered : {l : List ℕ} → l ≡ answer_numbers count_numbers a → l ≡ written_numbers (write_of σ (length out))
-    write_answered p = p ∙ written_are a ∙ ap written_numbers (rw (← is) call)
+    pub write_answered : {l : List ℕ} → l ≡ written_numbers a → l ≡ written_numbers (write_of σ (length out))
+    write_answered p = p ∙ ap written_numbers (rw (← is) call)
 
     pub write_written : {after : List ℕ} → after ≡ out_by a τ out → after ≡ out_by (write_of σ (length out)) σ out
     write_written p = rw (← is) (p ∙ ap (λ (x : Result ℕ Refusal). out_by x τ out) call)

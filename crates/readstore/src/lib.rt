@@ -17,7 +17,7 @@ ghost use Rattle.image_write.specs.Writing.{write_of, out_by};
 ghost use Rattle.image_read.specs.Loading.{load_of, keys_by, table_by as loaded_table, buffers_by};
 ghost use Rattle.readstore_numbers.specs.Numbers.{built_numbers, checked_numbers, looked_numbers, ranged_numbers, inserted_numbers, written_numbers, loaded_numbers};
 
-use readstore_numbers::{answer_numbers, sizes_of};
+use readstore_numbers::{answer_numbers, built_numbers, ranged_numbers, sizes_of, written_numbers};
 use table::Store;
 
 // The store that a call's numbers and slices are.
@@ -62,7 +62,7 @@ pub fn readstore_build(
         table,
         buffers,
     );
-    *answer = answer_numbers(a);
+    *answer = built_numbers(a);
 }
 
 // Whether the store keeps every rule. [2] is 1 if it does.
@@ -118,7 +118,7 @@ pub fn readstore_range(
     ensures written { out.new ≡ ranged_out (keys_from (store_of (sizes_of e b n s) keys.now table.now buffers.now) low high) (range_of (store_of (sizes_of e b n s) keys.now table.now buffers.now) low high (length out.old)) out.old }
 {
     let a = range::range(lent(keys, table, buffers, e, b, n, s), low, high, out);
-    *answer = answer_numbers(a);
+    *answer = ranged_numbers(a);
 }
 
 // k is taken in. [2] is 1 buffered, [3] the segment, [4] the slot; 2 merged, [3] the segment, [4] into how many, [5] the new n, [6] the new s.
@@ -159,7 +159,7 @@ pub fn readstore_image_write(
     ensures written { out.new ≡ out_by (write_of (store_of (sizes_of e b n s) keys.now table.now buffers.now) (length out.old)) (store_of (sizes_of e b n s) keys.now table.now buffers.now) out.old }
 {
     let a = image_write::write_image(lent(keys, table, buffers, e, b, n, s), out);
-    *answer = answer_numbers(a);
+    *answer = written_numbers(a);
 }
 
 // A stored form read into the slices. [3] is e, [4] B, [5] n, [6] s.

@@ -4,7 +4,7 @@
 
 ghost use Rattle.std.specs.Prelude.{◌≡◌, List, ℕ};
 ghost use Rattle.terms.specs.Limits.{sizes_of};
-ghost use Rattle.readstore_numbers.specs.Numbers.{refusal_numbers, answer_numbers, unit_numbers, count_numbers, found_numbers, taken_numbers, sizes_numbers};
+ghost use Rattle.readstore_numbers.specs.Numbers.{refusal_numbers, answer_numbers, unit_numbers, count_numbers, found_numbers, taken_numbers, sizes_numbers, built_numbers, ranged_numbers, written_numbers};
 
 use answers::{Inserted, Looked};
 use terms::{Refusal, Sizes};
@@ -106,4 +106,26 @@ pub fn answer_numbers<T: Numbers>(a: Result<T, Refusal>) -> [u64; 8]
         Ok(x) => x.numbers(),
         Err(r) => refusal_numbers(r),
     }
+}
+
+// Build, range and image writing answer a count alike; each has a name of its own, so that what is said of one says nothing of the others.
+#[tactic(auto, using(crate::proofs::Laws::built_are), unfolding(crate::specs::Numbers::built_numbers))]
+pub fn built_numbers(segments: Result<usize, Refusal>) -> [u64; 8]
+    ensures { result ≡ built_numbers segments }
+{
+    answer_numbers(segments)
+}
+
+#[tactic(auto, using(crate::proofs::Laws::ranged_are), unfolding(crate::specs::Numbers::ranged_numbers))]
+pub fn ranged_numbers(keys: Result<usize, Refusal>) -> [u64; 8]
+    ensures { result ≡ ranged_numbers keys }
+{
+    answer_numbers(keys)
+}
+
+#[tactic(auto, using(crate::proofs::Laws::written_are), unfolding(crate::specs::Numbers::written_numbers))]
+pub fn written_numbers(bytes: Result<usize, Refusal>) -> [u64; 8]
+    ensures { result ≡ written_numbers bytes }
+{
+    answer_numbers(bytes)
 }

@@ -1,5 +1,0 @@
-use Rattle.image_read.proofs.Laws.{fill_asks}
-use Rattle.image_read.proofs.read_image.Goals as goal
-
-pub fill-requires : goal.fill-requires
-fill-requires c = fill_asks _ _ _ _ _ c.in_ok-z.ensures
