@@ -48,15 +48,18 @@ impl<'a> Store<'a> {
         }
     }
 
-    // k in its rising place in the used slots of segment i; held grows by one.
+    // k in its rising place in the used slots of segment i; held grows by one. Nothing, where the list has no room for them.
     pub fn buffered(&mut self, i: u64, k: u64) {
         let x = self.lent();
         let entry = x.entry(i);
+        let used = x.used(i);
         let mut slots = List::new();
-        merge(x.used(i), &[k], &mut slots);
-        let held = slots.len() as u64;
-        copy(slots.as_slice(), 0, held, self.buffers, product(i, self.b));
-        put_entry(self.table, i, Entry { held, ..entry });
+        merge(used, &[k], &mut slots);
+        if used.len() < slots.len() {
+            let held = slots.len() as u64;
+            copy(slots.as_slice(), 0, held, self.buffers, product(i, self.b));
+            put_entry(self.table, i, Entry { held, ..entry });
+        }
     }
 
     // The merge's keys: the list at the run's place, and what follows the run moved by B.
@@ -103,17 +106,19 @@ impl<'a> Store<'a> {
         copy(&work, 0, all, self.table, 0);
     }
 
-    // Segment i merged with k, and cut again.
+    // Segment i merged with k, and cut again. Nothing, where the list has no room for its keys.
     pub fn merged(&mut self, i: u64, k: u64) {
         let x = self.lent();
         let from = x.entry(i).base;
         let to = x.end(i);
         let mut list = List::new();
         let mut entries = [0u64; ENTRIES];
-        joined(x, i, k, &mut list);
-        let t = cut(self.e, list.as_slice(), from, &mut entries);
-        self.new_keys(from, to, list.as_slice());
-        self.new_slots(i, t.saturating_sub(1));
-        self.new_table(i, &entries, t);
+        let m = joined(x, i, k, &mut list);
+        if m <= list.len() as u64 {
+            let t = cut(self.e, list.as_slice(), from, &mut entries);
+            self.new_keys(from, to, list.as_slice());
+            self.new_slots(i, t.saturating_sub(1));
+            self.new_table(i, &entries, t);
+        }
     }
 }
